@@ -1,0 +1,24 @@
+//! The lowest layer: texts, paths, nodes and trees, as every other crate sees them.
+#![tactic(auto)]
+
+mod faults;
+mod lists;
+mod names;
+mod nodes;
+mod numbers;
+mod shares;
+mod texts;
+mod trees;
+
+pub use faults::{Inputs, OptionFault, StageFault};
+pub use lists::List;
+pub use names::{Name, Path};
+pub use nodes::Node;
+pub use numbers::{Key, TaskNo, WorkerNo};
+pub use shares::Shared;
+use std::alloc::AllocError;
+pub use texts::{Bytes, Text};
+pub use trees::Tree;
+
+/// Want of memory: the one error of a call that can fail for nothing else.
+pub type NoMemory = AllocError;
