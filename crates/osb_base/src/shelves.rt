@@ -1,0 +1,115 @@
+ghost use Rattle.std.specs.Prelude.{◌≡◌, ◌≤◌, ℕ, List, length, Option, Some, IfOk, IfSome, option_copied};
+ghost use Rattle.osb_base.specs.Faults.{HasCause};
+ghost use Rattle.osb_base.specs.Shelves.{AreFiles, IsRead, IsCut, cut, file_of};
+
+use crate::failing::FailingCalls;
+use crate::{Bytes, NoMemory, ReadStop, Text};
+use std::alloc::Global;
+
+/// Where manifests are read, by name.
+pub trait Shelf {
+    /// What it holds, where it tells.
+    ghost files: { Self → Option (List (List ℕ × List ℕ)) };
+
+    ghost shelf_faults: { Self → ℕ };
+
+    /// The bytes under a name, and `None` where the name is absent. Bytes past the first 16,777,217 are left out.
+    fn read(&mut self, alloc: Global, name: &str) -> Result<Option<Bytes>, ReadStop>
+        ensures kept { files self.new ≡ files self.old }
+        ensures found { IfSome (files self.old) (λ held. IsRead held name.now result) }
+        ensures short { IsCut result }
+        ensures cause { HasCause ReadStop.Failed (shelf_faults self.old) (shelf_faults self.new) result };
+}
+
+/// A shelf in memory, some of whose calls fail.
+#[derive(Drop)]
+pub struct MemShelf {
+    files: Vec<(Text, Bytes)>,
+    calls: FailingCalls,
+}
+
+impl MemShelf {
+    /// A shelf with these files, of whose calls, counted from 1, those in `fail` fail.
+    pub fn new(files: Vec<(Text, Bytes)>, fail: Vec<u64>) -> Self
+        requires { AreFiles files.items }
+        ensures told { ⟦<MemShelf as Shelf>⟧.files result ≡ Some files.items }
+        ensures sound { ⟦<MemShelf as Shelf>⟧.shelf_faults result ≡ 0 }
+    {
+        MemShelf {
+            files,
+            calls: FailingCalls::new(fail),
+        }
+    }
+}
+
+impl Shelf for MemShelf {
+    ghost files = { λ s. Some s.files.items };
+
+    ghost shelf_faults = { λ s. s.calls.faults };
+
+    fn read(&mut self, alloc: Global, name: &str) -> Result<Option<Bytes>, ReadStop> {
+        if self.calls.fails_next() {
+            return Err(ReadStop::Failed);
+        }
+        Ok(read_file(alloc, &self.files, name)?)
+    }
+}
+
+/// A shelf in memory that never fails.
+#[derive(Drop)]
+pub struct SureShelf {
+    files: Vec<(Text, Bytes)>,
+}
+
+impl SureShelf {
+    pub fn new(files: Vec<(Text, Bytes)>) -> Self
+        requires { AreFiles files.items }
+        ensures { ⟦<SureShelf as Shelf>⟧.files result ≡ Some files.items }
+    {
+        SureShelf { files }
+    }
+}
+
+impl Shelf for SureShelf {
+    ghost files = { λ s. Some s.files.items };
+
+    ghost shelf_faults = { λ _. 0 };
+
+    fn read(&mut self, alloc: Global, name: &str) -> Result<Option<Bytes>, ReadStop> {
+        Ok(read_file(alloc, &self.files, name)?)
+    }
+}
+
+/// How many bytes of a file are given at most: one more than a manifest may have.
+const MOST_BYTES: usize = 16_777_217;
+
+/// What a shelf with these files gives under a name.
+fn read_file(alloc: Global, files: &[(Text, Bytes)], name: &str) -> Result<Option<Bytes>, NoMemory>
+    ensures found { IsRead files.now name.now result }
+    ensures short { IsCut result }
+{
+    match find_file(files, name) {
+        Some(bytes) => Ok(Some(front_of(alloc, bytes.as_slice())?)),
+        None => Ok(None),
+    }
+}
+
+fn find_file<'a>(files: &'a [(Text, Bytes)], name: &str) -> Option<&'a Bytes>
+    ensures { option_copied result ≡ file_of files.now name.now }
+{
+    for (held, bytes) in files {
+        if name == held.as_str() {
+            return Some(bytes);
+        }
+    }
+    None
+}
+
+fn front_of(alloc: Global, bytes: &[u8]) -> Result<Bytes, NoMemory>
+    ensures front { IfOk result (λ front. front ≡ cut bytes.now) }
+    ensures short { IfOk result (λ front. length front ≤ 16777217) }
+{
+    let end = MOST_BYTES.min(bytes.len());
+    let front = Vec::from_slice(alloc, &bytes[..end])?;
+    Ok(Bytes::new(front))
+}
