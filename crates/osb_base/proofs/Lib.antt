@@ -1,2 +1,3 @@
 pub mod Cuts
-pub mod Lookups
+pub mod FewFiles
+pub mod NamedItems

@@ -5,11 +5,15 @@
 mod exporters;
 mod failing;
 mod faults;
+mod lookups;
 mod shelves;
 mod sinks;
+#[cfg(test)]
+mod tests;
 
 pub use exporters::{Exporter, MemExporter, Op, SureExporter};
 pub use faults::{Failed, ReadStop, WriteStop};
+pub use lookups::find_named;
 pub use osb_tree::{Bytes, Key, List, NoMemory, TaskNo, Text, WorkerNo};
 pub use shelves::{MemShelf, Shelf, SureShelf};
 pub use sinks::{MemSink, Sink, SureSink};

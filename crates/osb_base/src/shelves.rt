@@ -1,9 +1,9 @@
-ghost use Rattle.std.specs.Prelude.{◌≡◌, ◌≤◌, ℕ, List, length, Option, Some, IfOk, IfSome, option_copied};
+ghost use Rattle.std.specs.Prelude.{◌≡◌, ◌≤◌, ℕ, List, length, Option, Some, IfOk, IfSome};
 ghost use Rattle.osb_base.specs.Faults.{HasCause};
-ghost use Rattle.osb_base.specs.Shelves.{AreFiles, IsRead, IsCut, cut, file_of};
+ghost use Rattle.osb_base.specs.Shelves.{AreFiles, IsRead, IsCut, cut};
 
 use crate::failing::FailingCalls;
-use crate::{Bytes, NoMemory, ReadStop, Text};
+use crate::{Bytes, NoMemory, ReadStop, Text, find_named};
 use std::alloc::Global;
 
 /// Where manifests are read, by name.
@@ -88,21 +88,10 @@ fn read_file(alloc: Global, files: &[(Text, Bytes)], name: &str) -> Result<Optio
     ensures found { IsRead files.now name.now result }
     ensures short { IsCut result }
 {
-    match find_file(files, name) {
+    match find_named(files, name) {
         Some(bytes) => Ok(Some(front_of(alloc, bytes.as_slice())?)),
         None => Ok(None),
     }
-}
-
-fn find_file<'a>(files: &'a [(Text, Bytes)], name: &str) -> Option<&'a Bytes>
-    ensures { option_copied result ≡ file_of files.now name.now }
-{
-    for (held, bytes) in files {
-        if name == held.as_str() {
-            return Some(bytes);
-        }
-    }
-    None
 }
 
 fn front_of(alloc: Global, bytes: &[u8]) -> Result<Bytes, NoMemory>

@@ -1,1 +1,6 @@
+pub mod Entries
+pub mod NextPaths
+pub mod PathLaws
+pub mod PathOrder
+pub mod Puts
 pub mod TreeLaws

@@ -1,8 +1,7 @@
 -- Laws of listings.
-use Rattle.std.proofs.Common.{◌≡◌, ℕ, List, [], ◌∷◌, ◌++◌, false, refl, lit≤, rules}
+use Rattle.std.proofs.Common.{◌≡◌, ℕ, List, [], ◌∷◌, ◌++◌, refl, lit≤, rules}
 use Rattle.std.specs.Prelude.{IsSome, IsTrue}
 use Rattle.std.specs.List.Sorted.{IsStrictlySortedBy}
-use Rattle.std.specs.Map.{keys_of}
 use Rattle.osb_tree.specs.Paths.{Names, root, path_cmp}
 use Rattle.osb_tree.specs.Trees.{Listing, IsTree, IsWithinLimits, empty_tree, tree_size, is_directory_at, node_at}
 

@@ -1,3 +1,4 @@
 pub mod Paths
 pub mod Nodes
 pub mod Trees
+pub mod Laws

@@ -1,9 +1,11 @@
 -- Names and paths as lists. A path is the list of its names from the root, and the root is the empty list.
-use Rattle.std.specs.Prelude.{ℕ, ◌≤◌, ◌==◌, Bool, not, ◌&&◌, ◌||◌, List, [], ◌∷◌, length, codes, IsTrue}
-use Rattle.std.specs.List.{flat_map, list_all, list_any}
+use Rattle.std.specs.Prelude.{ℕ, ◌≤◌, ◌==◌, Bool, true, false, not, ◌&&◌, ◌||◌, List, [], ◌∷◌, length, take, codes, IsTrue, nat_lt, slice_index, Option, Some, None, Result, Ok, Err, if◌then◌else◌}
+use Rattle.std.specs.List.{filter, flat_map, list_all, list_any, slice_split}
 use Rattle.std.specs.declared.cmp.Ordering.{Ordering}
 use Rattle.std.specs.Ordering.{nat_cmp}
 use Rattle.std.specs.Cmp.Lexicographic.{pointwise, slice_cmp}
+use Rattle.osb_tree.specs.declared.faults.PathFault.{PathFault}
+use Rattle.osb_tree.specs.declared.faults.PathFault.TheVariants.{Empty, NotAbsolute, DotName, NulByte, TooLong}
 
 -- a path, by the bytes of its names
 abbrev pub Names : Type 0
@@ -32,6 +34,32 @@ path_text (name ∷ names) = flat_map (λ n. 47 ∷ n) (name ∷ names)
 pub record IsPath (names : Names) : Type 0 where
   pub named : IsTrue (list_all is_name names)
   pub short : length (path_text names) ≤ 4096
+
+-- the names that a text has between its slashes: repeated slashes and slashes at the end add none
+abbrev pub names_of : List ℕ → Names
+names_of text = filter (λ piece. not (length piece == 0)) (slice_split (λ b. b == 47) text)
+
+-- the path that a text gives, or the first cause why it gives none
+abbrev pub path_of : List ℕ → Result Names PathFault
+path_of text =
+    if length text == 0 then Err Empty
+    else if not (slice_index text 0 == 47) then Err NotAbsolute
+    else if list_any is_dots (names_of text) then Err DotName
+    else if has_byte 0 text then Err NulByte
+    else if nat_lt 4096 (length (path_text (names_of text))) then Err TooLong
+    else Ok (names_of text)
+
+-- the path of the directory that holds a path; the root has none
+abbrev pub parent_of : Names → Option Names
+parent_of [] = None
+parent_of (name ∷ names) = Some (take (length names) (name ∷ names))
+
+-- whether a path lies beneath another: its names are those of the other and more
+abbrev pub is_beneath : Names → Names → Bool
+is_beneath [] [] = false
+is_beneath [] (q ∷ qs) = true
+is_beneath (p ∷ ps) [] = false
+is_beneath (p ∷ ps) (q ∷ qs) = pointwise ◌==◌ p q && is_beneath ps qs
 
 -- names by their bytes, and paths as lists of names: so a directory stands before what is beneath it
 abbrev pub name_cmp : List ℕ → List ℕ → Ordering

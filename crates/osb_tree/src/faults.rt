@@ -1,4 +1,64 @@
 use crate::{List, Path, Shared, Text, Tree};
+use std::alloc::AllocError;
+use thiserror::Error;
+
+/// Why a text gives no path.
+#[derive(Debug, Drop, Error)]
+pub enum PathFault {
+    /// 1
+    #[error("the path is empty")]
+    Empty,
+    /// 2
+    #[error("the path does not begin with a slash")]
+    NotAbsolute,
+    /// 3
+    #[error("a name of the path is `.` or `..`")]
+    DotName,
+    /// 4
+    #[error("the path has a NUL byte")]
+    NulByte,
+    /// 5
+    #[error("the path is longer than 4096 bytes")]
+    TooLong,
+    #[error("want of memory")]
+    NoMemory,
+}
+
+impl From<AllocError> for PathFault {
+    ghost use Rattle.std.specs.Prelude.{◌≡◌};
+    ghost use Rattle.osb_tree.specs.declared.faults.PathFault.TheVariants.{NoMemory};
+
+    ghost from_gives = { λ _ e. e ≡ NoMemory };
+
+    fn from(_error: AllocError) -> Self {
+        PathFault::NoMemory
+    }
+}
+
+/// Why a node can't be put at a path.
+#[derive(Debug, Drop)]
+pub enum PutFault {
+    /// 1: the directory that the path would stand in is absent.
+    ParentMissing,
+    /// 2: what stands there is no directory.
+    ParentNotDir,
+    /// 3: a file or link would take the place of the root, or of a directory with something beneath it.
+    NotEmpty,
+    /// 4: the tree would have over 262,144 paths, or a size over 268,435,456.
+    TooLarge,
+    NoMemory,
+}
+
+impl From<AllocError> for PutFault {
+    ghost use Rattle.std.specs.Prelude.{◌≡◌};
+    ghost use Rattle.osb_tree.specs.declared.faults.PutFault.TheVariants.{NoMemory};
+
+    ghost from_gives = { λ _ e. e ≡ NoMemory };
+
+    fn from(_error: AllocError) -> Self {
+        PutFault::NoMemory
+    }
+}
 
 /// The trees that a stage reads beside its own, by rising name; the names differ.
 #[derive(Drop)]
@@ -50,4 +110,15 @@ pub enum StageFault {
     /// 12: the tree would pass a limit.
     TreeTooLarge,
     NoMemory,
+}
+
+impl From<AllocError> for StageFault {
+    ghost use Rattle.std.specs.Prelude.{◌≡◌};
+    ghost use Rattle.osb_tree.specs.declared.faults.StageFault.TheVariants.{NoMemory};
+
+    ghost from_gives = { λ _ e. e ≡ NoMemory };
+
+    fn from(_error: AllocError) -> Self {
+        StageFault::NoMemory
+    }
 }

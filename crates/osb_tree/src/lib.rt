@@ -2,19 +2,25 @@
 #![tactic(auto)]
 
 mod faults;
+pub mod laws;
 mod lists;
 mod names;
 mod nodes;
 mod numbers;
+mod paths;
+mod places;
+#[cfg(test)]
+mod plain;
 mod shares;
 mod texts;
 mod trees;
 
-pub use faults::{Inputs, OptionFault, StageFault};
+pub use faults::{Inputs, OptionFault, PathFault, PutFault, StageFault};
 pub use lists::List;
-pub use names::{Name, Path};
+pub use names::Name;
 pub use nodes::Node;
 pub use numbers::{Key, TaskNo, WorkerNo};
+pub use paths::Path;
 pub use shares::Shared;
 use std::alloc::AllocError;
 pub use texts::{Bytes, Text};

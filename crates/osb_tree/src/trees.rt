@@ -1,10 +1,20 @@
-ghost use Rattle.std.specs.Prelude.{◌≡◌, ℕ, List, IfOk, length};
-ghost use Rattle.osb_tree.specs.Trees.{empty_tree, tree_size};
+ghost use Rattle.std.specs.Prelude.{◌≡◌, ◌≢◌, ◌↔◌, ℕ, ◌+◌, ◌≤◌, List, IfOk, IfErr, OnOk, OnErr, MatchOption, IsTrue, IsFalse, is_some, length, option_copied, if◌then◌else◌};
+ghost use Rattle.osb_tree.specs.Nodes.{InRange};
+ghost use Rattle.osb_tree.specs.Trees.{empty_tree, tree_size, node_at, next_after, put_at, put_fault, parent_fault, takes_over, has_beneath, is_too_large, IsTree, IsWithinLimits};
+ghost use Rattle.osb_tree.specs.Laws.{share_at};
 
-use crate::{NoMemory, Node, Path};
+use crate::places::{is_beneath, is_directory, weight};
+use crate::{NoMemory, Node, Path, PutFault};
 use std::alloc::Global;
 use std::collections::BTreeMap;
 use std::marker::Model;
+use std::ops::Bound;
+
+/// How many paths a tree may have.
+const MAX_PATHS: usize = 262_144;
+
+/// How large a tree may be, in bytes.
+const MAX_SIZE: u64 = 268_435_456;
 
 /// A tree of directories, files and links, which contracts see as its listing: the pairs of path and node in
 /// path order.
@@ -47,4 +57,119 @@ impl Tree {
     {
         self.size
     }
+
+    /// How many paths it has: at least one, since a tree has a root.
+    pub fn len(&self) -> usize
+        ensures count { result ≡ length self.now }
+        ensures tree { IsTree self.now }
+        ensures limits { IsWithinLimits self.now }
+    {
+        self.nodes.len()
+    }
+
+    /// What stands at the path.
+    pub fn get(&self, path: &Path) -> Option<&Node>
+        ensures { option_copied result ≡ node_at self.now path.now }
+    {
+        self.nodes.get(path)
+    }
+
+    /// The least path of the tree that is greater than the given one, which may be in the tree or not.
+    pub fn next_path(&self, alloc: Global, after: &Path) -> Result<Option<Path>, NoMemory>
+        ensures { IfOk result (λ next. next ≡ next_after self.now after.now) }
+    {
+        match self.following(after) {
+            Some(next) => Ok(Some(next.clone()?)),
+            None => Ok(None),
+        }
+    }
+
+    /// Sets what stands at a path. A directory keeps what is beneath it.
+    pub fn put(&mut self, alloc: Global, path: Path, node: Node) -> Result<(), PutFault>
+        requires { InRange node }
+        ensures ok { OnOk result ((put_fault self.old path node ≡ None) × (self.new ≡ put_at self.old path node)) }
+        ensures fault { IfErr result (λ fault. fault ≢ PutFault.NoMemory → put_fault self.old path node ≡ Some fault) }
+        ensures err { OnErr result (self.new ≡ self.old) }
+    {
+        self.check_parent(alloc, &path)?;
+        if self.takes_over(&path, &node) {
+            return Err(PutFault::NotEmpty);
+        }
+        let Some(size) = self.size_with(&path, &node) else {
+            return Err(PutFault::TooLarge);
+        };
+        match self.nodes.insert(path, node) {
+            Ok(_) => {
+                self.size = size;
+                Ok(())
+            }
+            Err(_) => Err(PutFault::NoMemory),
+        }
+    }
+
+    fn check_parent(&self, alloc: Global, path: &Path) -> Result<(), PutFault>
+        ensures ok { OnOk result (parent_fault self.now path.now ≡ None) }
+        ensures fault { IfErr result (λ fault. fault ≢ PutFault.NoMemory → parent_fault self.now path.now ≡ Some fault) }
+    {
+        let Some(parent) = path.parent(alloc)? else {
+            return Ok(());
+        };
+        match self.get(&parent) {
+            None => Err(PutFault::ParentMissing),
+            Some(node) if is_directory(node) => Ok(()),
+            Some(_) => Err(PutFault::ParentNotDir),
+        }
+    }
+
+    /// Whether what is no directory would take the place of the root, or of what has something beneath it.
+    fn takes_over(&self, path: &Path, node: &Node) -> bool
+        ensures { result ≡ takes_over self.now path.now node.now }
+    {
+        !is_directory(node) && (path.names().is_empty() || self.has_beneath(path))
+    }
+
+    /// Whatever lies beneath a path follows it directly.
+    fn has_beneath(&self, path: &Path) -> bool
+        ensures { result ≡ has_beneath self.now path.now }
+    {
+        self.following(path)
+            .is_some_and(|next| is_beneath(path, next))
+    }
+
+    /// The size with a node put at a path, where the tree would not be too large.
+    fn size_with(&self, path: &Path, node: &Node) -> Option<u64>
+        ensures { let after = put_at self.now path.now node.now in MatchOption result (IsTrue (is_too_large after)) (λ size. IsFalse (is_too_large after) × (size ≡ tree_size after)) }
+    {
+        if !self.has_room_for(path) {
+            return None;
+        }
+        let size = (self.size - self.share_at(path)).saturating_add(weight(path, node));
+        (size <= MAX_SIZE).then_some(size)
+    }
+
+    fn has_room_for(&self, path: &Path) -> bool
+        ensures room { IsTrue result ↔ (length self.now + (if is_some (node_at self.now path.now) then 0 else 1) ≤ 262144) }
+        ensures tree { IsTree self.now }
+    {
+        self.nodes.len() < MAX_PATHS || self.nodes.contains_key(path)
+    }
+
+    /// The share in the size of what stands at the path.
+    fn share_at(&self, path: &Path) -> u64
+        ensures { result ≡ share_at self.now path.now }
+    {
+        self.nodes.get(path).map_or(0, |node| weight(path, node))
+    }
+
+    fn following(&self, after: &Path) -> Option<&Path>
+        ensures next { option_copied result ≡ next_after self.now after.now }
+        ensures tree { IsTree self.now }
+    {
+        let greater = (Bound::Excluded(after), Bound::Unbounded);
+        let (next, _) = self.nodes.range(greater).next()?;
+        Some(next)
+    }
 }
+
+#[cfg(test)]
+mod tests;

@@ -1,0 +1,4 @@
+pub mod Builds
+pub mod Exporting
+pub mod Walks
+pub mod Writing

@@ -1,0 +1,5 @@
+pub mod Exports
+pub mod Answers
+pub mod Lines
+pub mod Runs
+pub mod Steps
