@@ -1,0 +1,5 @@
+pub mod Writing
+pub mod Digits
+pub mod Strings
+pub mod Floats
+pub mod Law

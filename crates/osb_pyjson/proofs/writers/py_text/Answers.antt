@@ -1,0 +1,10 @@
+use Rattle.std.proofs.Common.{string_bytes}
+use Rattle.serde_json.specs.View.{view}
+use Rattle.osb_pyjson.specs.PyText.{py_data}
+use Rattle.osb_pyjson.proofs.Floats.{float_has_no_text}
+use Rattle.osb_pyjson.proofs.Writing.{after-none}
+use Rattle.osb_pyjson.proofs.writers.py_text.Goals as goal
+
+pub returns-clause-whole : goal.returns-clause-whole
+returns-clause-whole c h =
+    absurd (after-none (string_bytes c.new-out.result) (string_bytes c.write_value.new.out) (py_data (view c.args.value.now)) (float_has_no_text (view c.args.value.now) h) c.in_ok-write_value.ensures.text)

@@ -1,0 +1,2 @@
+pub mod PyText
+pub mod Written
