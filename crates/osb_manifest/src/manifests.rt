@@ -1,3 +1,4 @@
+use crate::first::Stage;
 use osb_base::{List, NoMemory, Text};
 
 /// What a manifest asks for: pipelines by name, in its order.
@@ -11,10 +12,6 @@ pub struct Manifest {
 pub struct Pipeline {
     pub stages: List<Stage>,
 }
-
-/// One step of a pipeline. None is read yet.
-#[derive(Clone, Copy, Debug, PartialEq, Eq)]
-pub enum Stage {}
 
 /// Why bytes are no manifest, each with its place in the value: the names and list places from the top, a `/`
 /// before each, so that the top is the empty text.

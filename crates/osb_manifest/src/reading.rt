@@ -1,8 +1,11 @@
-ghost use Rattle.std.specs.Prelude.{◌≡◌, ◌≢◌, codes, Err, IfOk, option_map};
+ghost use Rattle.std.specs.Prelude.{◌≡◌, ◌≢◌, codes, Err, IfOk, option_map, option_and_then};
 ghost use Rattle.serde_json.specs.View.{view, items_view};
 ghost use Rattle.osb_manifest.specs.Forms.{json_of};
-ghost use Rattle.osb_manifest.specs.Manifests.{top, has_members, text_at, list_at, is_text, is_empty_list, has_no_stages, name_of_pipeline, only_item, pipelines_of, single, manifest_of_value, manifest_of};
+ghost use Rattle.osb_manifest.specs.Manifests.{top, text_at, is_text, only_item, pipeline_name_of, pipeline_stages, single, manifest_of_pipeline, pipelines_of, manifest_of_value, manifest_of};
 
+use crate::first::Stage;
+use crate::stages::stages_of;
+use crate::values::{has, has_members, has_text, list_at, text_at};
 use crate::{Manifest, Pipeline, Refusal, is_pipeline_name};
 use osb_base::{List, NoMemory, Text};
 use serde_json::Value;
@@ -52,25 +55,10 @@ fn read_json(alloc: Global, bytes: &[u8]) -> Result<Option<Value>, NoMemory>
 fn manifest_of_value(alloc: Global, value: &Value) -> Result<Option<Manifest>, NoMemory>
     ensures { IfOk result (λ manifest. manifest ≡ manifest_of_value (view value.now)) }
 {
-    let Some(name) = pipelines_of(value)
-        .and_then(only_item)
-        .and_then(name_of_pipeline)
-    else {
-        return Ok(None);
-    };
-    Ok(Some(single(alloc, name)?))
-}
-
-/// The manifest of one pipeline of this name, which has no stages.
-fn single(alloc: Global, name: &str) -> Result<Manifest, NoMemory>
-    ensures { IfOk result (λ manifest. manifest ≡ single name.now) }
-{
-    let name = Text::new(alloc, name)?;
-    let stages = List::new(Vec::new(alloc));
-    let pipelines = vec![in alloc; (name, Pipeline { stages })]?;
-    Ok(Manifest {
-        pipelines: List::new(pipelines),
-    })
+    match pipelines_of(value).and_then(only_item) {
+        Some(pipeline) => manifest_of_pipeline(alloc, pipeline),
+        None => Ok(None),
+    }
 }
 
 fn pipelines_of(value: &Value) -> Option<&Vec<Value>>
@@ -87,10 +75,7 @@ fn pipelines_of(value: &Value) -> Option<&Vec<Value>>
 fn is_version(value: &Value) -> bool
     ensures { result ≡ is_text (codes "2") (text_at (codes "version") (view value.now)) }
 {
-    match text_at(value, "version") {
-        Some(version) => version == "2",
-        None => false,
-    }
+    has_text(value, "version", "2")
 }
 
 fn only_item(items: &Vec<Value>) -> Option<&Value>
@@ -103,56 +88,52 @@ fn only_item(items: &Vec<Value>) -> Option<&Value>
     }
 }
 
-/// The name of a pipeline that has no stages.
-fn name_of_pipeline(value: &Value) -> Option<&str>
-    ensures { option_map (λ name. name.now) result ≡ name_of_pipeline (view value.now) }
+fn manifest_of_pipeline(alloc: Global, value: &Value) -> Result<Option<Manifest>, NoMemory>
+    ensures { IfOk result (λ manifest. manifest ≡ manifest_of_pipeline (view value.now)) }
 {
-    if !has_no_stages(value) {
-        return None;
-    }
+    let Some(name) = pipeline_name(value) else {
+        return Ok(None);
+    };
+    let Some(stages) = pipeline_stages(alloc, value)? else {
+        return Ok(None);
+    };
+    Ok(Some(single(alloc, name, stages)?))
+}
+
+fn pipeline_name(value: &Value) -> Option<&str>
+    ensures { option_map (λ name. name.now) result ≡ option_and_then pipeline_name_of (text_at (codes "name") (view value.now)) }
+{
     match text_at(value, "name") {
         Some(name) if is_pipeline_name(name) => Some(name),
         _ => None,
     }
 }
 
-fn has_no_stages(value: &Value) -> bool
-    ensures { result ≡ has_no_stages (view value.now) }
+fn pipeline_stages(alloc: Global, value: &Value) -> Result<Option<Vec<Stage>>, NoMemory>
+    ensures { IfOk result (λ stages. option_map (λ v. v.items) stages ≡ pipeline_stages (view value.now)) }
 {
-    if value.get("stages").is_some() {
-        has_members(value, 2) && has_empty_stages(value)
-    } else {
-        has_members(value, 1)
+    if !has(value, "stages") {
+        return Ok(has_members(value, 1).then(|| Vec::new(alloc)));
     }
-}
-
-fn has_empty_stages(value: &Value) -> bool
-    ensures { result ≡ is_empty_list (list_at (codes "stages") (view value.now)) }
-{
+    if !has_members(value, 2) {
+        return Ok(None);
+    }
     match list_at(value, "stages") {
-        Some(stages) => stages.as_slice().is_empty(),
-        None => false,
+        Some(items) => stages_of(alloc, items),
+        None => Ok(None),
     }
 }
 
-/// Whether a value is an object with so many members.
-fn has_members(value: &Value, count: usize) -> bool
-    ensures { result ≡ has_members count (view value.now) }
+fn single(alloc: Global, name: &str, stages: Vec<Stage>) -> Result<Manifest, NoMemory>
+    ensures { IfOk result (λ manifest. manifest ≡ single name.now stages.items) }
 {
-    match value.as_object() {
-        Some(members) => members.len() == count,
-        None => false,
-    }
+    let name = Text::new(alloc, name)?;
+    let stages = List::new(stages);
+    let pipelines = vec![in alloc; (name, Pipeline { stages })]?;
+    Ok(Manifest {
+        pipelines: List::new(pipelines),
+    })
 }
 
-fn text_at<'a>(value: &'a Value, name: &str) -> Option<&'a str>
-    ensures { option_map (λ text. text.now) result ≡ text_at name.now (view value.now) }
-{
-    value.get(name)?.as_str()
-}
-
-fn list_at<'a>(value: &'a Value, name: &str) -> Option<&'a Vec<Value>>
-    ensures { option_map (λ list. items_view list.now.items) result ≡ list_at name.now (view value.now) }
-{
-    value.get(name)?.as_array()
-}
+#[cfg(test)]
+mod tests;

@@ -3,6 +3,7 @@ use Rattle.std.proofs.Common.{◌≡◌, ◌≢◌, ℕ, ◌+◌, ◌<◌, ◌�
 use Rattle.std.proofs.lemmas.Bool.{cases_lt}
 use borrow.Author.Tests.{lt-ltb}
 use Rattle.osb_tree.specs.Trees.{Listing}
+use Rattle.osb_tree.specs.declared.faults.StageFault.{StageFault}
 use Rattle.osb_base.specs.Shelves.{Files, file_of, cut}
 use Rattle.osb_base.proofs.Cuts.{cut_short, cut_long}
 use Rattle.osb_manifest.specs.Manifests.{top, manifest_of, value_read}
@@ -10,11 +11,11 @@ use Rattle.osb_manifest.specs.Forms.{json_of}
 use Rattle.osb_manifest.specs.declared.manifests.Manifest.{Manifest}
 use Rattle.osb_manifest.specs.declared.manifests.Refusal.{Refusal}
 use Rattle.osb_manifest.specs.declared.manifests.Refusal.TheVariants.{TooLong}
-use Rattle.osb_top.specs.Answers.{tree_due, manifest_due, export_due, pipeline_of}
+use Rattle.osb_top.specs.Answers.{tree_due, manifest_due, export_due, pipeline_of, pipeline_tree, built}
 use Rattle.osb_top.specs.Runs.{Request, ShelfSeen, MayBeUnbuilt}
 use Rattle.osb_top.specs.Steps.{IsBuild}
 use Rattle.osb_top.specs.declared.answers.Unbuilt.{Unbuilt}
-use Rattle.osb_top.specs.declared.answers.Unbuilt.TheVariants.{Absent, ReadFault, Refused, NoSuchExport, NoMemory}
+use Rattle.osb_top.specs.declared.answers.Unbuilt.TheVariants.{Absent, ReadFault, Refused, NoSuchExport, Failed, NoMemory}
 
 -- ---- a manifest that is cut one byte past the limit is refused as the whole one is
 
@@ -50,9 +51,13 @@ due_under (Some files) name given export h = ap (λ found. tree_due found export
 
 -- ---- what is due is no fault of the outside
 
+built-fault : (name : List ℕ) (result : Result Listing (ℕ × StageFault)) → built name result ≡ Err ReadFault → ⊥
+built-fault name (Ok listing) e = cc
+built-fault name (Err failure) e = cc
+
 export_due-fault : (export : List ℕ) (found : Option _) → export_due export found ≡ Err ReadFault → ⊥
 export_due-fault export None e = cc
-export_due-fault export (Some pipeline) e = cc
+export_due-fault export (Some pipeline) e = built-fault export (pipeline_tree pipeline.stages) e
 
 manifest_due-fault : (export : List ℕ) (read : Result Manifest Refusal) → manifest_due export read ≡ Err ReadFault → ⊥
 manifest_due-fault export (Err refusal) e = cc
@@ -70,6 +75,7 @@ by_due shelf due (Err Absent) fault h = sym (h (λ e. cc))
 by_due shelf due (Err ReadFault) fault h = absurd (fault (sym (h (λ e. cc))))
 by_due shelf due (Err (Refused refusal)) fault h = sym (h (λ e. cc))
 by_due shelf due (Err (NoSuchExport name)) fault h = sym (h (λ e. cc))
+by_due shelf due (Err (Failed pipeline stage fault')) fault h = sym (h (λ e. cc))
 by_due shelf due (Err NoMemory) fault h = tt
 
 -- a manifest that was read

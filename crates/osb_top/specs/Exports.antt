@@ -2,6 +2,7 @@
 use Rattle.std.specs.Prelude.{ℕ, ◌+◌, ◌/◌, ◌%◌, ◌<◌, ◌≡◌, List, [], ◌∷◌, ◌++◌, length, map, codes, Option, option_map}
 use Rattle.std.specs.List.{flat_map}
 use Rattle.std.specs.Fmt.{decimal}
+use Rattle.osb_pyjson.specs.PyText.{py_quoted}
 use Rattle.osb_tree.specs.Paths.{Names, path_text}
 use Rattle.osb_tree.specs.Trees.{Listing}
 use Rattle.osb_tree.specs.declared.nodes.Node.{Node}
@@ -22,18 +23,14 @@ op_of folder (path, nodes.Link uid gid target) = ops.Link (place_of folder path)
 abbrev pub octal : ℕ → List ℕ
 octal mode = decimal (mode / 512 % 8) ++ (decimal (mode / 64 % 8) ++ (decimal (mode / 8 % 8) ++ decimal (mode % 8)))
 
--- a text between quotes
-abbrev pub quoted : List ℕ → List ℕ
-quoted text = codes "\"" ++ (text ++ codes "\"")
-
 -- the line of a path: what stands there, its mode, its owners, the path, and a file's length or a link's target
 abbrev pub list_line : Names × Node → List ℕ
 list_line (path, nodes.Dir mode uid gid) =
-    codes "d " ++ (octal mode ++ (codes " " ++ (decimal uid ++ (codes " " ++ (decimal gid ++ (codes " " ++ (quoted (path_text path) ++ codes "\n")))))))
+    codes "d " ++ (octal mode ++ (codes " " ++ (decimal uid ++ (codes " " ++ (decimal gid ++ (codes " " ++ (py_quoted (path_text path) ++ codes "\n")))))))
 list_line (path, nodes.File mode uid gid bytes) =
-    codes "f " ++ (octal mode ++ (codes " " ++ (decimal uid ++ (codes " " ++ (decimal gid ++ (codes " " ++ (quoted (path_text path) ++ (codes " " ++ (decimal (length bytes) ++ codes "\n")))))))))
+    codes "f " ++ (octal mode ++ (codes " " ++ (decimal uid ++ (codes " " ++ (decimal gid ++ (codes " " ++ (py_quoted (path_text path) ++ (codes " " ++ (decimal (length bytes) ++ codes "\n")))))))))
 list_line (path, nodes.Link uid gid target) =
-    codes "l 0777 " ++ (decimal uid ++ (codes " " ++ (decimal gid ++ (codes " " ++ (quoted (path_text path) ++ (codes " " ++ (quoted target ++ codes "\n")))))))
+    codes "l 0777 " ++ (decimal uid ++ (codes " " ++ (decimal gid ++ (codes " " ++ (py_quoted (path_text path) ++ (codes " " ++ (py_quoted target ++ codes "\n")))))))
 
 abbrev pub list_text : Listing → List ℕ
 list_text listing = flat_map list_line listing

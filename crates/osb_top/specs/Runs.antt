@@ -9,7 +9,7 @@ use Rattle.osb_top.specs.Exports.{export_list, Appends, StopsExport}
 use Rattle.osb_top.specs.Answers.{tree_due}
 use Rattle.osb_top.specs.Lines.{answer_line}
 use Rattle.osb_top.specs.declared.answers.Unbuilt.{Unbuilt}
-use Rattle.osb_top.specs.declared.answers.Unbuilt.TheVariants.{Absent, ReadFault, Refused, NoSuchExport, NoMemory}
+use Rattle.osb_top.specs.declared.answers.Unbuilt.TheVariants.{Absent, ReadFault, Refused, NoSuchExport, Failed, NoMemory}
 use Rattle.osb_top.specs.declared.answers.Answer.{Answer}
 use Rattle.osb_top.specs.declared.answers.Answer.TheVariants as answers
 
@@ -60,6 +60,7 @@ abbrev pub MayBeUnbuilt : ShelfSeen → Result Listing Unbuilt → Unbuilt → T
 MayBeUnbuilt shelf due Absent = due ≡ Err Absent
 MayBeUnbuilt shelf due (Refused refusal) = due ≡ Err (Refused refusal)
 MayBeUnbuilt shelf due (NoSuchExport name) = due ≡ Err (NoSuchExport name)
+MayBeUnbuilt shelf due (Failed pipeline stage fault) = due ≡ Err (Failed pipeline stage fault)
 MayBeUnbuilt shelf due ReadFault = HasRisen shelf.faults
 MayBeUnbuilt shelf due NoMemory = Unit {0}
 

@@ -1,9 +1,10 @@
 ghost use Rattle.std.specs.Prelude.{◌≡◌, ◌≢◌, Err, IfOk};
-ghost use Rattle.osb_top.specs.Answers.{tree_of, pipeline_of, export_due, tree_due};
+ghost use Rattle.osb_top.specs.Answers.{pipeline_tree, built, pipeline_of, export_due, tree_due};
 
 use osb_base::{Bytes, NoMemory, Text, find_named};
-use osb_manifest::{Manifest, Refusal, Stage, read_manifest};
-use osb_tree::Tree;
+use osb_manifest::first::{Stage, apply};
+use osb_manifest::{Manifest, Refusal, read_manifest};
+use osb_tree::{StageFault, Tree};
 use std::alloc::Global;
 
 /// Why a build has no tree.
@@ -16,6 +17,12 @@ pub enum Unbuilt {
     Refused(Refusal),
     /// The manifest has no pipeline of the name.
     NoSuchExport(Text),
+    /// A stage of the pipeline, by its place from 0, has a fault.
+    Failed {
+        pipeline: Text,
+        stage: u64,
+        fault: StageFault,
+    },
     NoMemory,
 }
 
@@ -60,16 +67,39 @@ fn export_due(alloc: Global, manifest: &Manifest, export: &str) -> Result<Tree, 
     ensures { result ≢ Err Unbuilt.NoMemory → result ≡ export_due export.now (pipeline_of manifest.now export.now) }
 {
     match find_named(manifest.pipelines.as_slice(), export) {
-        Some(pipeline) => Ok(tree_of(alloc, pipeline.stages.as_slice())?),
+        Some(pipeline) => pipeline_tree(alloc, export, pipeline.stages.as_slice()),
         None => Err(Unbuilt::NoSuchExport(Text::new(alloc, export)?)),
     }
 }
 
-fn tree_of(alloc: Global, stages: &[Stage]) -> Result<Tree, NoMemory>
-    ensures { IfOk result (λ tree. tree ≡ tree_of stages.now) }
+/// The tree of a pipeline of this name with these stages.
+fn pipeline_tree(alloc: Global, name: &str, stages: &[Stage]) -> Result<Tree, Unbuilt>
+    ensures { result ≢ Err Unbuilt.NoMemory → result ≡ built name.now (pipeline_tree stages.now) }
 {
-    match stages {
-        [] => Tree::empty(alloc),
-        [stage, ..] => match *stage {},
+    let mut tree = Tree::empty(alloc)?;
+    for (place, stage) in stages.iter().enumerate() {
+        tree = match apply(alloc, stage, tree) {
+            Ok(tree) => tree,
+            Err(fault) => return Err(failed(alloc, name, place as u64, fault)),
+        };
+    }
+    Ok(tree)
+}
+
+/// The answer of a pipeline whose stage has this fault.
+fn failed(alloc: Global, name: &str, stage: u64, fault: StageFault) -> Unbuilt
+    ensures memory { fault ≡ StageFault.NoMemory → result ≡ Unbuilt.NoMemory }
+    ensures fault { result ≢ Unbuilt.NoMemory → result ≡ Unbuilt.Failed name.now stage fault }
+{
+    if let StageFault::NoMemory = fault {
+        return Unbuilt::NoMemory;
+    }
+    match Text::new(alloc, name) {
+        Ok(pipeline) => Unbuilt::Failed {
+            pipeline,
+            stage,
+            fault,
+        },
+        Err(_) => Unbuilt::NoMemory,
     }
 }

@@ -2,9 +2,10 @@ ghost use Rattle.std.specs.Prelude.{◌≡◌, ◌++◌, [], ◌∷◌, string_b
 ghost use Rattle.osb_base.specs.Faults.{HasCause};
 ghost use Rattle.osb_base.specs.Exports.{after_op};
 ghost use Rattle.osb_tree.specs.Trees.{node_at, next_after};
-ghost use Rattle.osb_top.specs.Exports.{place_of, op_of, octal, quoted, list_line, export_list, Appends, StopsExport};
+ghost use Rattle.osb_top.specs.Exports.{place_of, op_of, octal, list_line, export_list, Appends, StopsExport};
 
 use osb_base::{Exporter, NoMemory, WriteStop};
+use osb_pyjson::py_string;
 use osb_tree::{Node, Path, Tree};
 use std::alloc::{AllocError, Global};
 
@@ -101,7 +102,8 @@ fn place_of(alloc: Global, folder: &str, path: &Path) -> Result<String, NoMemory
 fn list_line(alloc: Global, path: &Path, node: &Node) -> Result<String, NoMemory>
     ensures { IfOk result (λ line. string_bytes line ≡ list_line (path.now, node.now)) }
 {
-    let path = quoted(alloc, path.text(alloc)?.as_str())?;
+    let path = py_string(alloc, path.text(alloc)?.as_str())?;
+    let path = path.as_str();
     match node {
         Node::Dir { mode, uid, gid } => {
             let mode = octal(alloc, *mode)?;
@@ -118,17 +120,11 @@ fn list_line(alloc: Global, path: &Path, node: &Node) -> Result<String, NoMemory
             format!(in alloc; "f {mode} {uid} {gid} {path} {length}\n")
         }
         Node::Link { uid, gid, target } => {
-            let target = quoted(alloc, target.as_str())?;
+            let target = py_string(alloc, target.as_str())?;
+            let target = target.as_str();
             format!(in alloc; "l 0777 {uid} {gid} {path} {target}\n")
         }
     }
-}
-
-/// A text between quotes.
-pub fn quoted(alloc: Global, text: &str) -> Result<String, NoMemory>
-    ensures { IfOk result (λ line. string_bytes line ≡ quoted text.now) }
-{
-    format!(in alloc; "\"{text}\"")
 }
 
 /// A mode in four octal digits.

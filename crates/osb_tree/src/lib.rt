@@ -9,8 +9,6 @@ mod nodes;
 mod numbers;
 mod paths;
 mod places;
-#[cfg(test)]
-mod plain;
 mod shares;
 mod texts;
 mod trees;

@@ -1,0 +1,42 @@
+//! The command: it reads manifests from files, exports trees into the folder `out`, and writes its answer to standard
+//! output.
+#![tactic(auto)]
+
+mod folder;
+mod output;
+mod readings;
+mod shelf_files;
+mod stops;
+#[cfg(test)]
+mod tests;
+mod writings;
+
+use folder::FolderExporter;
+use osb_top::run_serial;
+use output::Output;
+use shelf_files::FileShelf;
+use std::process::ExitCode;
+use std::rt::Env;
+use std::{env, io};
+
+/// How often a file is read or written at most until it is given up.
+const MOST_TURNS: u64 = 1 << 40;
+
+const EXPORT_ROOT: &str = "out";
+
+/// The words after the program's name.
+fn words<R: Env + AllocGlobal>(rt: &R) -> io::Result<Vec<String>> {
+    let mut args = env::args(rt)?;
+    args.next();
+    Ok(args.collect(rt.alloc())?)
+}
+
+fn main(rt: HostRuntime) -> ExitCode {
+    let alloc = rt.alloc();
+    let words = words(&rt).unwrap_or_else(|_| Vec::new(alloc));
+    let mut shelf = FileShelf::new(rt);
+    let mut exporter = FolderExporter::new(rt, EXPORT_ROOT);
+    let mut out = Output::new(rt);
+    let status = run_serial(alloc, &words, &mut shelf, &mut exporter, &mut out);
+    ExitCode::from(status.0)
+}

@@ -1,0 +1,47 @@
+//! Manifests as files of the system.
+ghost use Rattle.std.specs.Prelude.{◌≡◌, None};
+ghost use Rattle.osb_base.specs.Faults.{HasCause};
+
+use crate::readings::read_opened;
+use osb_base::{Bytes, ReadStop, Shelf};
+use std::alloc::Global;
+use std::fs;
+use std::rt::Files;
+
+/// A shelf whose names are paths of files.
+#[derive(Drop)]
+pub struct FileShelf<R: Files> {
+    files: R,
+    faults: u64,
+}
+
+impl<R: Files> FileShelf<R> {
+    pub fn new(files: R) -> Self
+        ensures { result.faults ≡ 0 }
+    {
+        FileShelf { files, faults: 0 }
+    }
+
+    pub fn faults(&self) -> u64
+        ensures { result ≡ self.now.faults }
+    {
+        self.faults
+    }
+}
+
+impl<R: Files> Shelf for FileShelf<R> {
+    ghost files = { λ _. None };
+
+    ghost shelf_faults = { λ s. s.faults };
+
+    fn read(&mut self, alloc: Global, name: &str) -> Result<Option<Bytes>, ReadStop> {
+        if name.is_empty() {
+            return Ok(None);
+        }
+        let found = read_opened(alloc, fs::open(&self.files, name));
+        if matches!(found, Err(ReadStop::Failed)) {
+            self.faults = self.faults.saturating_add(1);
+        }
+        found
+    }
+}
