@@ -316,3 +316,61 @@ fn manifest_of_the_greatest_length_is_read(rt: HostRuntime) -> Result<(), Fail> 
     )?;
     Ok(())
 }
+
+/// A manifest of one pipeline with `mkdir` stages of one path each.
+fn directories(alloc: Global, paths: &[&str]) -> Result<String, NoMemory> {
+    let mut manifest = String::from_str(
+        alloc,
+        "{\"version\":\"2\",\"pipelines\":[{\"name\":\"os\",\"stages\":[",
+    )?;
+    manifest.push_str("{\"type\":\"org.osbuild.noop\"}")?;
+    for path in paths {
+        manifest.push_str(",{\"type\":\"org.osbuild.mkdir\",\"options\":{\"paths\":[{\"path\":\"")?;
+        manifest.push_str(path)?;
+        manifest.push_str("\"}]}}")?;
+    }
+    manifest.push_str("]}]}")?;
+    Ok(manifest)
+}
+
+#[test]
+fn first_fault_of_a_stage_is_answered(rt: HostRuntime) -> Result<(), Fail> {
+    let cases: [(&[&str], &str); 3] = [
+        (&["/etc", "/etc"], "1 failed os 2 2 \"/etc\"\n"),
+        (&["/a/b"], "1 failed os 1 1 \"/a\"\n"),
+        (&["/a", "/", "/b/c"], "1 failed os 2 2 \"/\"\n"),
+    ];
+    for (paths, out) in cases {
+        let manifest = directories(rt.alloc(), paths)?;
+        check(&rt, rt.alloc(), out, &answered(manifest.as_bytes(), out))?;
+    }
+    Ok(())
+}
+
+#[test]
+fn directories_are_exported_in_path_order(rt: HostRuntime) -> Result<(), Fail> {
+    let alloc = rt.alloc();
+    let manifest = directories(alloc, &["/usr", "/etc", "//etc/ssh/", "/etc-x"])?;
+    let case = Case {
+        manifest: manifest.as_bytes(),
+        out: "1 os exported 343\n",
+        operations: 6,
+        ..EXPORTED
+    };
+    let exporter = check(&rt, alloc, "directories", &case)?;
+    let list =
+        "d 0755 0 0 \"/\"\nd 0755 0 0 \"/etc\"\nd 0755 0 0 \"/etc/ssh\"\nd 0755 0 0 \"/etc-x\"\nd 0755 0 0 \"/usr\"\n";
+    let finish = Op::Finish {
+        folder: Text::new(alloc, "1/os")?,
+        list: Bytes::new(Vec::from_slice(alloc, list.as_bytes())?),
+    };
+    assert_eq!(rt; exporter.done().last(), Some(&finish));
+    let third = Op::Dir {
+        path: Text::new(alloc, "1/os/tree/etc/ssh")?,
+        mode: 0o755,
+        uid: 0,
+        gid: 0,
+    };
+    assert_eq!(rt; exporter.done().get(2), Some(&third));
+    Ok(())
+}
