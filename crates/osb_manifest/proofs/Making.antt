@@ -1,15 +1,18 @@
 -- Where a directory can be made.
-use Rattle.std.proofs.Common.{◌≡◌, ℕ, ◌++◌, List, [], ◌∷◌, length, take, map, Bool, true, false, cond, Option, Some, None, is_some, refl, sym, ◌∙◌, ap, true≢false}
+use Rattle.std.proofs.Common.{◌≡◌, ◌≢◌, ℕ, ◌++◌, List, [], ◌∷◌, length, take, map, Bool, true, false, cond, Option, Some, None, is_some, Ok, Err, zero, suc, refl, sym, ◌∙◌, ap, true≢false, arith}
+use Rattle.std.specs.Prelude.{IsSome, IsTrue}
 use Rattle.std.specs.Option.{option_or}
-use Rattle.std.proofs.lemmas.List.{map-append}
+use Rattle.std.proofs.lemmas.List.{map-append, length-take-le}
 use Rattle.osb_tree.specs.Paths.{Names, parent_of}
 use Rattle.osb_tree.specs.Nodes.{is_directory}
-use Rattle.osb_tree.specs.Trees.{Listing, node_at, put_at, put_fault, is_too_large, parent_fault, directory_fault as put_directory_fault}
+use Rattle.osb_tree.proofs.Puts.{PutFits-from_put_fault, parent_is_a_directory}
+use Rattle.osb_tree.specs.Trees.{Listing, IsTree, is_directory_at, node_at, put_at, put_fault, is_too_large, parent_fault, directory_fault as put_directory_fault}
 use Rattle.osb_tree.specs.declared.nodes.Node.{Node}
 use Rattle.osb_tree.specs.declared.faults.PutFault.{PutFault}
-use Rattle.osb_tree.specs.declared.faults.PutFault.TheVariants.{TooLarge}
+use Rattle.osb_tree.specs.declared.faults.PutFault.TheVariants.{ParentNotDir, TooLarge}
 use Rattle.osb_tree.specs.declared.faults.StageFault.{StageFault}
-use Rattle.osb_manifest.specs.Stages.{ancestors, directory_fault, first_fault, made_directory}
+use Rattle.osb_tree.specs.declared.faults.StageFault.TheVariants.{TreeTooLarge}
+use Rattle.osb_manifest.specs.Stages.{ancestors, directory_fault, first_fault, made_directory, with_directory}
 
 -- ---- ancestors
 
@@ -98,3 +101,70 @@ too_large-from false fault e = absurd (true≢false (ap is_some (sym e)))
 pub put_fault-too_large : (listing : Listing) (path : Names) (fault : PutFault) → first_fault listing (ancestors path) ≡ None → put_fault listing path made_directory ≡ Some fault → fault ≡ TooLarge
 put_fault-too_large listing path fault none e =
     too_large-from _ fault (sym (put_fault-made_directory listing path none) ∙ e)
+
+-- ---- the directories above a path of a tree
+
+put_directory_fault-directory : (listing : Listing) (path : Names) → IsTrue (is_directory_at listing path) → put_directory_fault (node_at listing path) ≡ None
+put_directory_fault-directory listing path there = by (node_at listing path) refl
+  where
+    by : (found : Option Node) → node_at listing path ≡ found → put_directory_fault (node_at listing path) ≡ None
+    by None e = absurd (true≢false (sym (rw e at there)))
+    by (Some node) e = rw (e, rw e at there) refl
+
+-- what is in a tree stands in a directory
+parent_fault-there : (listing : Listing) (path : Names) → IsTree listing → IsSome (node_at listing path) → parent_fault listing path ≡ None
+parent_fault-there listing [] tree there = refl
+parent_fault-there listing (name ∷ names) tree there =
+    put_directory_fault-directory listing (take (length names) (name ∷ names)) (parent_is_a_directory listing (name ∷ names) tree there)
+
+directory_fault-none : (path : Names) (found : Option Node) → put_directory_fault found ≡ None → (directory_fault path found ≡ None) × IsSome found
+directory_fault-none path None e = absurd (true≢false (ap is_some e))
+directory_fault-none path (Some node) e = by (is_directory node) refl
+  where
+    by : (b : Bool) → is_directory node ≡ b → (directory_fault path (Some node) ≡ None) × IsSome (Some node)
+    by true d = (rw d refl, refl)
+    by false d = absurd (true≢false (ap is_some (rw d at e)))
+
+-- where the parent is a directory, all above it are
+first_fault-none : (count : ℕ) (listing : Listing) (path : Names) → length path ≡ count → IsTree listing → parent_fault listing path ≡ None → first_fault listing (ancestors path) ≡ None
+first_fault-none count listing [] long tree none = refl
+first_fault-none zero listing (name ∷ names) long tree none = absurd (omega (arith, long))
+first_fault-none (suc count) listing (name ∷ names) long tree none =
+    let parent = take (length names) (name ∷ names) in
+    let is = directory_fault-none parent (node_at listing parent) none in
+    let shorter = length-take-le (length names) (name ∷ names) (omega arith) in
+    let above = first_fault-none count listing parent (omega (arith, shorter, long)) tree (parent_fault-there listing parent tree is.1) in
+    first_fault-parent listing (name ∷ names) parent (node_at listing parent) refl above refl ∙ is.0
+
+-- ---- a directory made, by what a put of it answers
+
+with_directory-in_directory : (listing : Listing) (path : Names) → IsTree listing → is_some (node_at listing path) ≡ false → parent_fault listing path ≡ None → with_directory listing path ≡ cond (is_too_large (put_at listing path made_directory)) (Err TreeTooLarge) (Ok (put_at listing path made_directory))
+with_directory-in_directory listing path tree absent none =
+    rw (absent, first_fault-none (length path) listing path refl tree none) refl
+
+pub with_directory-put : (listing : Listing) (path : Names) → IsTree listing → is_some (node_at listing path) ≡ false → put_fault listing path made_directory ≡ None → with_directory listing path ≡ Ok (put_at listing path made_directory)
+with_directory-put listing path tree absent e =
+    let fits = PutFits-from_put_fault listing path made_directory e in
+    with_directory-in_directory listing path tree absent fits.parent ∙ rw fits.small refl
+
+put_directory_fault-small : (found : Option Node) → put_directory_fault found ≢ Some TooLarge
+put_directory_fault-small None e = cc
+put_directory_fault-small (Some node) e = by (is_directory node) (sym e)
+  where
+    by : (b : Bool) → Some TooLarge ≡ cond b None (Some ParentNotDir) → ⊥
+    by true e = absurd (true≢false (ap is_some e))
+    by false e = cc
+
+parent_fault-small : (listing : Listing) (path : Names) → parent_fault listing path ≢ Some TooLarge
+parent_fault-small listing [] e = true≢false (ap is_some (sym e))
+parent_fault-small listing (name ∷ names) e = put_directory_fault-small (node_at listing (take (length names) (name ∷ names))) e
+
+too_large-by : (fault : Option PutFault) (large : Bool) → fault ≢ Some TooLarge → option_or fault (cond large (Some TooLarge) None) ≡ Some TooLarge → (fault ≡ None) × (large ≡ true)
+too_large-by None true small e = (refl, refl)
+too_large-by None false small e = absurd (true≢false (ap is_some (sym e)))
+too_large-by (Some fault) large small e = absurd (small e)
+
+pub with_directory-too_large : (listing : Listing) (path : Names) → IsTree listing → is_some (node_at listing path) ≡ false → put_fault listing path made_directory ≡ Some TooLarge → with_directory listing path ≡ Err TreeTooLarge
+with_directory-too_large listing path tree absent e =
+    let is = too_large-by _ _ (parent_fault-small listing path) e in
+    with_directory-in_directory listing path tree absent is.0 ∙ rw is.1 refl

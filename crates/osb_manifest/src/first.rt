@@ -51,7 +51,8 @@ fn make_directory(alloc: Global, path: &Path, tree: &mut Tree) -> Result<(), Sta
     if tree.get(path).is_some() {
         return Err(StageFault::Exists(path.clone()?));
     }
-    check_ancestors(alloc, path, tree)?;
+    // Its clause says that each directory of the tree stands in a directory.
+    let _count = tree.len();
     let directory = Node::Dir {
         mode: 0o755,
         uid: 0,
@@ -63,7 +64,11 @@ fn make_directory(alloc: Global, path: &Path, tree: &mut Tree) -> Result<(), Sta
     match fault {
         PutFault::TooLarge => Err(StageFault::TreeTooLarge),
         PutFault::NoMemory => Err(StageFault::NoMemory),
-        _ => unreachable!(),
+        // The parent is no directory: the fault names the first such ancestor.
+        _ => {
+            check_ancestors(alloc, path, tree)?;
+            unreachable!()
+        }
     }
 }
 

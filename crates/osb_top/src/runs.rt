@@ -1,5 +1,5 @@
-ghost use Rattle.std.specs.Prelude.{◌≡◌, codes, map, string_bytes, OnOk, OnErr};
-ghost use Rattle.osb_base.specs.Faults.{HasCause};
+ghost use Rattle.std.specs.Prelude.{◌≡◌, codes, map, string_bytes, None, OnOk, OnErr};
+ghost use Rattle.osb_base.specs.Faults.{HasCause, Rose};
 ghost use Rattle.osb_top.specs.Exports.{export_list, Appends, StopsExport};
 ghost use Rattle.osb_top.specs.Lines.{answer_line};
 ghost use Rattle.osb_top.specs.Runs.{request_of, folder_of, answer_status, Answers, IsWritten, Ends, IsRun};
@@ -27,11 +27,15 @@ pub fn run_serial<H: Shelf, E: Exporter, O: Sink>(
     exporter: &mut E,
     out: &mut O,
 ) -> Status
-    ensures { IsRun (request_of (map string_bytes words.now))
+    ensures run { IsRun (request_of (map string_bytes words.now))
         (record { files = H.files shelf.old; faults = record { before = H.shelf_faults shelf.old; now = H.shelf_faults shelf.new } })
         (record { before = E.done exporter.old; now = E.done exporter.new; faults = record { before = E.export_faults exporter.old; now = E.export_faults exporter.new } })
         (record { before = O.taken out.old; now = O.taken out.new; faults = record { before = O.sink_faults out.old; now = O.sink_faults out.new } })
         result.0 }
+
+    // What two statuses tell by themselves.
+    ensures words_refused { result.0 ≡ 2 → request_of (map string_bytes words.now) ≡ None }
+    ensures sink_failed { result.0 ≡ 6 → Rose (O.sink_faults out.old) (O.sink_faults out.new) }
 {
     let Some(request) = request_of(words) else {
         return refuse_words(out);
