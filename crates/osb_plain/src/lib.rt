@@ -2,7 +2,6 @@
 //! what the trees of `osb_tree` answer.
 #![tactic(auto)]
 
-mod places;
 mod trees;
 
 pub use trees::PlainTree;

@@ -4,7 +4,7 @@ ghost use Rattle.std.specs.List.{position_or_len};
 ghost use Rattle.osb_tree.specs.Paths.{path_cmp};
 ghost use Rattle.osb_tree.specs.Trees.{empty_tree, tree_size, node_at, next_after, put_at, put_fault, parent_fault, takes_over, has_beneath, is_too_large};
 
-use crate::places::{is_beneath, is_directory, weight};
+use osb_tree::places::{is_beneath, is_directory, weight};
 use osb_tree::{NoMemory, Node, Path, PutFault};
 use std::alloc::Global;
 use std::marker::Model;

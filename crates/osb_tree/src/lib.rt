@@ -8,7 +8,7 @@ mod names;
 mod nodes;
 mod numbers;
 mod paths;
-mod places;
+pub mod places;
 mod shares;
 mod texts;
 mod trees;

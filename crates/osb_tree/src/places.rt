@@ -1,3 +1,4 @@
+//! Paths and nodes as a tree has them.
 ghost use Rattle.std.specs.Prelude.{◌≡◌, ◌-◌, ◌^◌, ◌≤◌, min, length};
 ghost use Rattle.osb_tree.specs.Paths.{path_text, is_beneath};
 ghost use Rattle.osb_tree.specs.Nodes.{is_directory, content_length};
@@ -6,20 +7,20 @@ ghost use Rattle.osb_tree.specs.Trees.{weight};
 use crate::{Node, Path};
 
 /// Whether the other path lies beneath the path.
-pub(crate) fn is_beneath(path: &Path, other: &Path) -> bool
+pub fn is_beneath(path: &Path, other: &Path) -> bool
     ensures { result ≡ is_beneath path.now other.now }
 {
     path.names().len() < other.names().len() && other.names().starts_with(path.names())
 }
 
-pub(crate) fn is_directory(node: &Node) -> bool
+pub fn is_directory(node: &Node) -> bool
     ensures { result ≡ is_directory node.now }
 {
     matches!(node, Node::Dir { .. })
 }
 
 /// The share of a path in the size of a tree, up to the greatest number.
-pub(crate) fn weight(path: &Path, node: &Node) -> u64
+pub fn weight(path: &Path, node: &Node) -> u64
     ensures { result ≡ min (weight (path.now, node.now)) (2 ^ 64 - 1) }
 {
     (64 + text_length(path)).saturating_add(content_length(node))
