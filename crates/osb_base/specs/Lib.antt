@@ -1,4 +1,5 @@
 pub mod Faults
+pub mod Calls
 pub mod Shelves
 pub mod Exports
 pub mod Sinks

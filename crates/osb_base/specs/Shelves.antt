@@ -1,8 +1,9 @@
 -- What a shelf holds: files by name.
-use Rattle.std.specs.Prelude.{◌≡◌, ℕ, ◌==◌, ◌≤◌, List, length, take, Option, Some, None, option_map, Result, IfOk, IfSome}
+use Rattle.std.specs.Prelude.{◌≡◌, ℕ, ◌==◌, ◌≤◌, List, length, take, Option, option_map, Result, IfOk, IfSome}
 use Rattle.std.specs.List.{IsDistinct}
 use Rattle.std.specs.Cmp.Lexicographic.{pointwise}
 use Rattle.std.specs.Map.{keys_of, lookup}
+use Rattle.osb_base.specs.Calls.{Calls}
 
 -- files by name, with their bytes
 abbrev pub Files : Type 0
@@ -26,3 +27,8 @@ IsRead files name result = IfOk result (λ found. found ≡ option_map cut (file
 -- no file is given longer than a shelf gives it
 abbrev pub IsCut : {E : Type 0} → Result (Option (List ℕ)) E → Type 0
 IsCut result = IfOk result (λ found. IfSome found (λ bytes. length bytes ≤ 16777217))
+
+-- a shelf in memory
+pub record ShelfState : Type 0 where
+  pub held : Files
+  pub calls : Calls

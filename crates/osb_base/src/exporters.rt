@@ -1,11 +1,13 @@
 ghost use Rattle.std.specs.Prelude.{◌≡◌, ℕ, List, [], Option, Some, option_map, IfOk};
 ghost use Rattle.osb_base.specs.declared.exporters.Op.{Op};
 ghost use Rattle.osb_base.specs.Faults.{HasCause};
-ghost use Rattle.osb_base.specs.Exports.{after_op};
+ghost use Rattle.osb_base.specs.Calls.{no_calls, IsCall};
+ghost use Rattle.osb_base.specs.Exports.{ExporterState, after_op};
 
 use crate::failing::FailingCalls;
 use crate::{Bytes, NoMemory, Text, WriteStop};
 use std::alloc::Global;
+use std::marker::Model;
 
 /// One operation of an exporter.
 #[derive(Debug, Drop, PartialEq, Eq)]
@@ -143,11 +145,16 @@ pub struct MemExporter {
     calls: FailingCalls,
 }
 
+impl Model for MemExporter {
+    ghost Value = { ExporterState };
+
+    ghost view = { λ e. record { ops = e.done.items; calls = e.calls } };
+}
+
 impl MemExporter {
     /// An exporter that did nothing yet, of whose calls, counted from 1, those in `fail` fail.
     pub fn new(alloc: Global, fail: Vec<u64>) -> Self
-        ensures told { ⟦<MemExporter as Exporter>⟧.done result ≡ Some [] }
-        ensures sound { ⟦<MemExporter as Exporter>⟧.export_faults result ≡ 0 }
+        ensures { result ≡ record { ops = []; calls = no_calls fail.items } }
     {
         MemExporter {
             done: Vec::new(alloc),
@@ -156,14 +163,14 @@ impl MemExporter {
     }
 
     pub fn done(&self) -> &[Op]
-        ensures { ⟦<MemExporter as Exporter>⟧.done self.now ≡ Some result.now }
+        ensures { result.now ≡ self.now.ops }
     {
         &self.done
     }
 }
 
 impl Exporter for MemExporter {
-    ghost done = { λ e. Some e.done.items };
+    ghost done = { λ e. Some e.ops };
 
     ghost export_faults = { λ e. e.calls.faults };
 
@@ -174,11 +181,17 @@ impl Exporter for MemExporter {
         mode: u32,
         uid: u32,
         gid: u32,
-    ) -> Result<(), WriteStop> {
+    ) -> Result<(), WriteStop>
+        ensures done { self.new.ops ≡ after_op result (Op.Dir path.now mode uid gid) self.old.ops }
+        ensures cause { HasCause WriteStop.Failed self.old.calls.faults self.new.calls.faults result }
+        ensures calls { IsCall WriteStop.Failed WriteStop.NoMemory self.old.calls self.new.calls result }
+    {
         if self.calls.fails_next() {
+            self.calls.count_fault();
             return Err(WriteStop::Failed);
         }
         self.done.push(dir_op(alloc, path, mode, uid, gid)?)?;
+        self.calls.count_call();
         Ok(())
     }
 
@@ -190,12 +203,18 @@ impl Exporter for MemExporter {
         uid: u32,
         gid: u32,
         bytes: &[u8],
-    ) -> Result<(), WriteStop> {
+    ) -> Result<(), WriteStop>
+        ensures done { self.new.ops ≡ after_op result (Op.File path.now mode uid gid bytes.now) self.old.ops }
+        ensures cause { HasCause WriteStop.Failed self.old.calls.faults self.new.calls.faults result }
+        ensures calls { IsCall WriteStop.Failed WriteStop.NoMemory self.old.calls self.new.calls result }
+    {
         if self.calls.fails_next() {
+            self.calls.count_fault();
             return Err(WriteStop::Failed);
         }
         self.done
             .push(file_op(alloc, path, mode, uid, gid, bytes)?)?;
+        self.calls.count_call();
         Ok(())
     }
 
@@ -206,19 +225,31 @@ impl Exporter for MemExporter {
         uid: u32,
         gid: u32,
         target: &str,
-    ) -> Result<(), WriteStop> {
+    ) -> Result<(), WriteStop>
+        ensures done { self.new.ops ≡ after_op result (Op.Link path.now uid gid target.now) self.old.ops }
+        ensures cause { HasCause WriteStop.Failed self.old.calls.faults self.new.calls.faults result }
+        ensures calls { IsCall WriteStop.Failed WriteStop.NoMemory self.old.calls self.new.calls result }
+    {
         if self.calls.fails_next() {
+            self.calls.count_fault();
             return Err(WriteStop::Failed);
         }
         self.done.push(link_op(alloc, path, uid, gid, target)?)?;
+        self.calls.count_call();
         Ok(())
     }
 
-    fn finish(&mut self, alloc: Global, folder: &str, list: &[u8]) -> Result<(), WriteStop> {
+    fn finish(&mut self, alloc: Global, folder: &str, list: &[u8]) -> Result<(), WriteStop>
+        ensures done { self.new.ops ≡ after_op result (Op.Finish folder.now list.now) self.old.ops }
+        ensures cause { HasCause WriteStop.Failed self.old.calls.faults self.new.calls.faults result }
+        ensures calls { IsCall WriteStop.Failed WriteStop.NoMemory self.old.calls self.new.calls result }
+    {
         if self.calls.fails_next() {
+            self.calls.count_fault();
             return Err(WriteStop::Failed);
         }
         self.done.push(finish_op(alloc, folder, list)?)?;
+        self.calls.count_call();
         Ok(())
     }
 }

@@ -1,50 +1,54 @@
-ghost use Rattle.std.specs.Prelude.{◌≡◌, ◌↔◌, ◌+◌, ◌-◌, ◌^◌, ◌≤◌, min, Contains, IsTrue, IsFalse};
-ghost use Rattle.osb_base.specs.Faults.{Rose};
+ghost use Rattle.std.specs.Prelude.{◌≡◌, ◌≤◌};
+ghost use Rattle.osb_base.specs.Calls.{Calls, no_calls, is_to_fail, with_call, with_fault};
+
+use std::marker::Model;
 
 /// The calls of an object in memory, counted from 1, of which some are to fail.
 #[derive(Drop)]
 pub struct FailingCalls {
-    pub numbers: Vec<u64>,
-    pub made: u64,
-    pub faults: u64,
+    failing: Vec<u64>,
+    made: u64,
+    faults: u64,
+}
+
+impl Model for FailingCalls {
+    ghost Value = { Calls };
+
+    ghost view = { λ c. record { failing = c.failing.items; made = c.made; faults = c.faults } };
 }
 
 impl FailingCalls {
-    pub fn new(numbers: Vec<u64>) -> Self
-        ensures numbers { result.numbers.items ≡ numbers.items }
-        ensures made { result.made ≡ 0 }
-        ensures faults { result.faults ≡ 0 }
+    pub fn new(failing: Vec<u64>) -> Self
+        ensures { result ≡ no_calls failing.items }
     {
         FailingCalls {
-            numbers,
+            failing,
             made: 0,
             faults: 0,
         }
     }
 
-    /// Counts one more call, and says whether it is to fail, which is a fault.
-    pub fn fails_next(&mut self) -> bool
-        ensures made { self.new.made ≡ min (self.old.made + 1) (2 ^ 64 - 1) }
-        ensures fails { IsTrue result ↔ Contains self.old.numbers.items self.new.made }
-        ensures rose { IsTrue result → Rose self.old.faults self.new.faults }
-        ensures sound { IsFalse result → self.new.faults ≡ self.old.faults }
-        ensures numbers { self.new.numbers.items ≡ self.old.numbers.items }
+    /// Whether the next call is to fail.
+    pub fn fails_next(&self) -> bool
+        ensures { result ≡ is_to_fail self.now }
+    {
+        let number = self.made.saturating_add(1);
+        self.failing.contains(&number)
+    }
+
+    /// Counts a call that was done.
+    pub fn count_call(&mut self)
+        ensures { self.new ≡ with_call self.old }
+    {
+        self.made = self.made.saturating_add(1);
+    }
+
+    /// Counts a call that failed, or was stuck.
+    pub fn count_fault(&mut self)
+        ensures counted { self.new ≡ with_fault self.old }
         ensures later { self.old.faults ≤ self.new.faults }
     {
         self.made = self.made.saturating_add(1);
-        let fails = self.numbers.contains(&self.made);
-        if fails {
-            self.count_fault();
-        }
-        fails
-    }
-
-    pub fn count_fault(&mut self)
-        ensures rose { Rose self.old.faults self.new.faults }
-        ensures later { self.old.faults ≤ self.new.faults }
-        ensures made { self.new.made ≡ self.old.made }
-        ensures numbers { self.new.numbers.items ≡ self.old.numbers.items }
-    {
         self.faults = self.faults.saturating_add(1);
     }
 }

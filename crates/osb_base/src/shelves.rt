@@ -1,10 +1,12 @@
 ghost use Rattle.std.specs.Prelude.{◌≡◌, ◌≤◌, ℕ, List, length, Option, Some, IfOk, IfSome};
 ghost use Rattle.osb_base.specs.Faults.{HasCause};
-ghost use Rattle.osb_base.specs.Shelves.{AreFiles, IsRead, IsCut, cut};
+ghost use Rattle.osb_base.specs.Calls.{no_calls, IsCall};
+ghost use Rattle.osb_base.specs.Shelves.{AreFiles, ShelfState, IsRead, IsCut, cut};
 
 use crate::failing::FailingCalls;
 use crate::{Bytes, NoMemory, ReadStop, Text, find_named};
 use std::alloc::Global;
+use std::marker::Model;
 
 /// Where manifests are read, by name.
 pub trait Shelf {
@@ -28,12 +30,17 @@ pub struct MemShelf {
     calls: FailingCalls,
 }
 
+impl Model for MemShelf {
+    ghost Value = { ShelfState };
+
+    ghost view = { λ s. record { held = s.files.items; calls = s.calls } };
+}
+
 impl MemShelf {
     /// A shelf with these files, of whose calls, counted from 1, those in `fail` fail.
     pub fn new(files: Vec<(Text, Bytes)>, fail: Vec<u64>) -> Self
         requires { AreFiles files.items }
-        ensures told { ⟦<MemShelf as Shelf>⟧.files result ≡ Some files.items }
-        ensures sound { ⟦<MemShelf as Shelf>⟧.shelf_faults result ≡ 0 }
+        ensures { result ≡ record { held = files.items; calls = no_calls fail.items } }
     {
         MemShelf {
             files,
@@ -43,15 +50,24 @@ impl MemShelf {
 }
 
 impl Shelf for MemShelf {
-    ghost files = { λ s. Some s.files.items };
+    ghost files = { λ s. Some s.held };
 
     ghost shelf_faults = { λ s. s.calls.faults };
 
-    fn read(&mut self, alloc: Global, name: &str) -> Result<Option<Bytes>, ReadStop> {
+    fn read(&mut self, alloc: Global, name: &str) -> Result<Option<Bytes>, ReadStop>
+        ensures kept { self.new.held ≡ self.old.held }
+        ensures found { IsRead self.old.held name.now result }
+        ensures short { IsCut result }
+        ensures cause { HasCause ReadStop.Failed self.old.calls.faults self.new.calls.faults result }
+        ensures calls { IsCall ReadStop.Failed ReadStop.NoMemory self.old.calls self.new.calls result }
+    {
         if self.calls.fails_next() {
+            self.calls.count_fault();
             return Err(ReadStop::Failed);
         }
-        Ok(read_file(alloc, &self.files, name)?)
+        let found = read_file(alloc, &self.files, name)?;
+        self.calls.count_call();
+        Ok(found)
     }
 }
 

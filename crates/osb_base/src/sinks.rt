@@ -1,10 +1,12 @@
-ghost use Rattle.std.specs.Prelude.{◌≡◌, ℕ, ◌<◌, ◌≤◌, List, [], length, Option, Some, None, option_map, IfOk, vec_len, vec_capacity};
+ghost use Rattle.std.specs.Prelude.{◌≡◌, ◌↔◌, ℕ, ◌<◌, ◌≤◌, min, List, [], length, Option, Some, None, option_map, IfOk, IsErr, IsTrue, vec_len, vec_capacity};
 ghost use Rattle.osb_base.specs.Faults.{Rose, HasCause};
-ghost use Rattle.osb_base.specs.Sinks.{after_write};
+ghost use Rattle.osb_base.specs.Calls.{no_calls, is_to_fail};
+ghost use Rattle.osb_base.specs.Sinks.{SinkState, after_write, space, calls_after};
 
 use crate::failing::FailingCalls;
 use crate::{Failed, NoMemory};
 use std::alloc::Global;
+use std::marker::Model;
 
 /// Where lines are written.
 pub trait Sink {
@@ -28,8 +30,14 @@ pub struct MemSink {
     room: usize,
     most: Option<usize>,
     calls: FailingCalls,
-    ghost within_room: { vec_len taken ≤ room },
-    ghost reserved: { room ≤ vec_capacity taken },
+}
+
+impl Model for MemSink {
+    ghost Value = { SinkState };
+
+    ghost view = { λ s. record { bytes = s.taken.items; room = s.room; most = s.most; calls = s.calls } };
+
+    ghost invariant = { λ s. (vec_len s.taken ≤ s.room) × (s.room ≤ vec_capacity s.taken) };
 }
 
 impl MemSink {
@@ -41,8 +49,7 @@ impl MemSink {
         most: Option<usize>,
         fail: Vec<u64>,
     ) -> Result<Self, NoMemory>
-        ensures told { IfOk result (λ sink. ⟦<MemSink as Sink>⟧.taken sink ≡ Some []) }
-        ensures sound { IfOk result (λ sink. ⟦<MemSink as Sink>⟧.sink_faults sink ≡ 0) }
+        ensures { IfOk result (λ sink. sink ≡ record { bytes = []; room = room; most = most; calls = no_calls fail.items }) }
     {
         Ok(MemSink {
             taken: Vec::with_capacity(alloc, room)?,
@@ -53,27 +60,50 @@ impl MemSink {
     }
 
     pub fn taken(&self) -> &[u8]
-        ensures { ⟦<MemSink as Sink>⟧.taken self.now ≡ Some result.now }
+        ensures { result.now ≡ self.now.bytes }
     {
         &self.taken
+    }
+
+    /// How many bytes of a piece it takes next.
+    fn space(&self) -> usize
+        ensures { result ≡ space self.now }
+    {
+        let left = self.room - self.taken.len();
+        match self.most {
+            Some(most) => most.min(left),
+            None => left,
+        }
     }
 }
 
 impl Sink for MemSink {
-    ghost taken = { λ s. Some s.taken.items };
+    ghost taken = { λ s. Some s.bytes };
 
     ghost sink_faults = { λ s. s.calls.faults };
 
-    fn write(&mut self, piece: &[u8]) -> Result<usize, Failed> {
+    fn write(&mut self, piece: &[u8]) -> Result<usize, Failed>
+        ensures within { IfOk result (λ count. count ≤ length piece.now) }
+        ensures taken { self.new.bytes ≡ after_write result piece.now self.old.bytes }
+        ensures cause { HasCause (record {}) self.old.calls.faults self.new.calls.faults result }
+        ensures stuck { IfOk result (λ count. count ≡ 0 → 0 < length piece.now → Rose self.old.calls.faults self.new.calls.faults) }
+        ensures fails { IsErr result ↔ IsTrue (is_to_fail self.old.calls) }
+        ensures count { IfOk result (λ count. count ≡ min (length piece.now) (space self.old)) }
+        ensures calls { self.new.calls ≡ calls_after self.old }
+        ensures room { self.new.room ≡ self.old.room }
+        ensures most { self.new.most ≡ self.old.most }
+    {
         if self.calls.fails_next() {
+            self.calls.count_fault();
             return Err(Failed);
         }
-        let room = self.room - self.taken.len();
-        let most = self.most.unwrap_or(piece.len()).min(room);
-        if most == 0 {
+        let space = self.space();
+        if space == 0 {
             self.calls.count_fault();
+        } else {
+            self.calls.count_call();
         }
-        let count = most.min(piece.len());
+        let count = space.min(piece.len());
         match self.taken.extend_from_slice(&piece[..count]) {
             Ok(()) => Ok(count),
             Err(_) => unreachable!(),
