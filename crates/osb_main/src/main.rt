@@ -15,6 +15,7 @@ use folder::FolderExporter;
 use osb_top::run_serial;
 use output::Output;
 use shelf_files::FileShelf;
+use std::io::ErrorKind;
 use std::process::ExitCode;
 use std::rt::Env;
 use std::{env, io};
@@ -33,7 +34,12 @@ fn words<R: Env + AllocGlobal>(rt: &R) -> io::Result<Vec<String>> {
 
 fn main(rt: HostRuntime) -> ExitCode {
     let alloc = rt.alloc();
-    let words = words(&rt).unwrap_or_else(|_| Vec::new(alloc));
+    let words = match words(&rt) {
+        Ok(words) => words,
+        Err(error) if error.kind() == ErrorKind::OutOfMemory => return ExitCode::from(7),
+        // Words that can't be read are no request.
+        Err(_) => Vec::new(alloc),
+    };
     let mut shelf = FileShelf::new(rt);
     let mut exporter = FolderExporter::new(rt, EXPORT_ROOT);
     let mut out = Output::new(rt);
