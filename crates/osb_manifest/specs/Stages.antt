@@ -1,5 +1,5 @@
 -- What stages do to a tree: its listing after them, or the first fault.
-use Rattle.std.specs.Prelude.{ℕ, ◌+◌, List, [], ◌∷◌, map, Option, Some, None, is_some, Result, Ok, Err, if◌then◌else◌}
+use Rattle.std.specs.Prelude.{List, [], ◌∷◌, map, Option, Some, None, is_some, Result, Ok, Err, if◌then◌else◌}
 use Rattle.osb_tree.specs.Paths.{Names, root}
 use Rattle.osb_tree.specs.Nodes.{is_directory}
 use Rattle.osb_tree.specs.Trees.{Listing, node_at, put_at, is_too_large}

@@ -1,9 +1,9 @@
 //! The first stages: what they are, and what they do to a tree.
 ghost use Rattle.std.specs.Prelude.{◌≡◌, ◌≢◌, Ok, Err, Some, None, IfErr, OnOk};
-ghost use Rattle.osb_tree.specs.Nodes.{is_directory};
 ghost use Rattle.osb_manifest.specs.Stages.{ancestors, first_fault, with_directory, with_directories, effect};
 
 use osb_base::List;
+use osb_tree::places::is_directory;
 use osb_tree::{Node, Path, PutFault, StageFault, Tree};
 use std::alloc::Global;
 
@@ -86,12 +86,6 @@ fn check_ancestors(alloc: Global, path: &Path, tree: &Tree) -> Result<(), StageF
         Some(node) if is_directory(node) => Ok(()),
         Some(_) => Err(StageFault::NotADir(parent)),
     }
-}
-
-fn is_directory(node: &Node) -> bool
-    ensures { result ≡ is_directory node.now }
-{
-    matches!(node, Node::Dir { .. })
 }
 
 #[cfg(test)]
