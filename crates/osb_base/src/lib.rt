@@ -15,5 +15,5 @@ pub use exporters::{Exporter, MemExporter, Op, SureExporter};
 pub use faults::{Failed, ReadStop, WriteStop};
 pub use lookups::find_named;
 pub use osb_tree::{Bytes, Key, List, NoMemory, TaskNo, Text, WorkerNo};
-pub use shelves::{MemShelf, Shelf, SureShelf};
+pub use shelves::{MOST_FILE_BYTES, MemShelf, Shelf, SureShelf};
 pub use sinks::{MemSink, Sink, SureSink};

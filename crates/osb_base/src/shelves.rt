@@ -96,8 +96,8 @@ impl Shelf for SureShelf {
     }
 }
 
-/// How many bytes of a file are given at most: one more than a manifest may have.
-const MOST_BYTES: usize = 16_777_217;
+/// How many bytes of a file a shelf gives at most: one more than a manifest may have.
+pub const MOST_FILE_BYTES: usize = 16_777_217;
 
 /// What a shelf with these files gives under a name.
 fn read_file(alloc: Global, files: &[(Text, Bytes)], name: &str) -> Result<Option<Bytes>, NoMemory>
@@ -114,7 +114,7 @@ fn front_of(alloc: Global, bytes: &[u8]) -> Result<Bytes, NoMemory>
     ensures front { IfOk result (λ front. front ≡ cut bytes.now) }
     ensures short { IfOk result (λ front. length front ≤ 16777217) }
 {
-    let end = MOST_BYTES.min(bytes.len());
+    let end = MOST_FILE_BYTES.min(bytes.len());
     let front = Vec::from_slice(alloc, &bytes[..end])?;
     Ok(Bytes::new(front))
 }

@@ -6,13 +6,10 @@ ghost use Rattle.osb_base.specs.Shelves.{IsCut, cut};
 
 use crate::MOST_TURNS;
 use crate::stops::read_stop;
-use osb_base::{Bytes, ReadStop};
+use osb_base::{Bytes, MOST_FILE_BYTES, ReadStop};
 use std::alloc::Global;
 use std::io;
 use std::io::{ErrorKind, Read};
-
-/// How many bytes of a file are read at most: one more than a manifest may have.
-const MOST_BYTES: usize = 16_777_217;
 
 /// How many bytes are asked for at once.
 const CHUNK: usize = 65_536;
@@ -61,7 +58,7 @@ fn read_more<F: Read>(
     ensures bytes { OnOk result (HasAppended front.old.items front.new.items (F.remaining file.old) (F.remaining file.new)) }
     ensures end { IfOk result (λ ended. IsTrue ended → IsWhole front.new.items (F.remaining file.new)) }
 {
-    let most = (MOST_BYTES - front.len()).min(buffer.len());
+    let most = (MOST_FILE_BYTES - front.len()).min(buffer.len());
     if most == 0 {
         return Ok(true);
     }
