@@ -162,16 +162,23 @@ fn manifests_are_answered(rt: HostRuntime) -> Result<(), Fail> {
     for (name, case) in &cases {
         check(&rt, rt.alloc(), name, case)?;
     }
-    let stages = b"{\"pipelines\":[{\"stages\":[],\"name\":\"os\"}],\"version\":\"2\"}";
-    check(
-        &rt,
-        rt.alloc(),
-        "an empty list of stages",
-        &Case {
-            manifest: stages,
+    let exported: [(&str, &[u8]); 2] = [
+        (
+            "an empty list of stages",
+            b"{\"pipelines\":[{\"stages\":[],\"name\":\"os\"}],\"version\":\"2\"}",
+        ),
+        (
+            "a stage that does nothing",
+            b"{\"version\":\"2\",\"pipelines\":[{\"name\":\"os\",\"stages\":[{\"type\":\"org.osbuild.noop\"}]}]}",
+        ),
+    ];
+    for (name, manifest) in exported {
+        let case = Case {
+            manifest,
             ..EXPORTED
-        },
-    )?;
+        };
+        check(&rt, rt.alloc(), name, &case)?;
+    }
     Ok(())
 }
 
@@ -323,9 +330,11 @@ fn directories(alloc: Global, paths: &[&str]) -> Result<String, NoMemory> {
         alloc,
         "{\"version\":\"2\",\"pipelines\":[{\"name\":\"os\",\"stages\":[",
     )?;
-    manifest.push_str("{\"type\":\"org.osbuild.noop\"}")?;
-    for path in paths {
-        manifest.push_str(",{\"type\":\"org.osbuild.mkdir\",\"options\":{\"paths\":[{\"path\":\"")?;
+    for (place, path) in paths.iter().enumerate() {
+        if place > 0 {
+            manifest.push(',')?;
+        }
+        manifest.push_str("{\"type\":\"org.osbuild.mkdir\",\"options\":{\"paths\":[{\"path\":\"")?;
         manifest.push_str(path)?;
         manifest.push_str("\"}]}}")?;
     }
@@ -336,9 +345,9 @@ fn directories(alloc: Global, paths: &[&str]) -> Result<String, NoMemory> {
 #[test]
 fn first_fault_of_a_stage_is_answered(rt: HostRuntime) -> Result<(), Fail> {
     let cases: [(&[&str], &str); 3] = [
-        (&["/etc", "/etc"], "1 failed os 2 2 \"/etc\"\n"),
-        (&["/a/b"], "1 failed os 1 1 \"/a\"\n"),
-        (&["/a", "/", "/b/c"], "1 failed os 2 2 \"/\"\n"),
+        (&["/etc", "/etc"], "1 failed os 1 2 \"/etc\"\n"),
+        (&["/a/b"], "1 failed os 0 1 \"/a\"\n"),
+        (&["/a", "/", "/b/c"], "1 failed os 1 2 \"/\"\n"),
     ];
     for (paths, out) in cases {
         let manifest = directories(rt.alloc(), paths)?;
