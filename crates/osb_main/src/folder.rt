@@ -19,7 +19,7 @@ pub struct FolderExporter<'a, R: Files> {
 
 impl<'a, R: Files> FolderExporter<'a, R> {
     pub fn new(files: R, root: &'a str) -> Self
-        ensures { result.faults ≡ 0 }
+        ensures sound { ⟦<FolderExporter<'a, R> as Exporter>⟧.export_faults result ≡ 0 }
     {
         FolderExporter {
             files,
@@ -29,7 +29,7 @@ impl<'a, R: Files> FolderExporter<'a, R> {
     }
 
     pub fn faults(&self) -> u64
-        ensures { result ≡ self.now.faults }
+        ensures faults { result ≡ ⟦<FolderExporter<'a, R> as Exporter>⟧.export_faults self.now }
     {
         self.faults
     }

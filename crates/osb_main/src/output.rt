@@ -14,7 +14,7 @@ pub struct Output<R: Print> {
 
 impl<R: Print> Output<R> {
     pub fn new(printer: R) -> Self
-        ensures { result.faults ≡ 0 }
+        ensures sound { ⟦<Output<R> as Sink>⟧.sink_faults result ≡ 0 }
     {
         Output { printer, faults: 0 }
     }

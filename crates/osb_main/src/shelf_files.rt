@@ -17,13 +17,13 @@ pub struct FileShelf<R: Files> {
 
 impl<R: Files> FileShelf<R> {
     pub fn new(files: R) -> Self
-        ensures { result.faults ≡ 0 }
+        ensures sound { ⟦<FileShelf<R> as Shelf>⟧.shelf_faults result ≡ 0 }
     {
         FileShelf { files, faults: 0 }
     }
 
     pub fn faults(&self) -> u64
-        ensures { result ≡ self.now.faults }
+        ensures faults { result ≡ ⟦<FileShelf<R> as Shelf>⟧.shelf_faults self.now }
     {
         self.faults
     }
