@@ -1,3 +1,4 @@
+pub mod AccountLaws
 pub mod Entries
 pub mod NextPaths
 pub mod PathLaws

@@ -1,5 +1,5 @@
 -- Laws of names and paths.
-use Rattle.std.proofs.Common.{◌≡◌, ℕ, ◌<◌, ◌+◌, ◌≤◌, ◌==◌, ◌++◌, zero, suc, List, [], ◌∷◌, length, get_or, take, Bool, true, false, not, ◌||◌, cond, Some, refl, sym, ◌∙◌, ap, arith}
+use Rattle.std.proofs.Common.{◌≡◌, ℕ, ◌<◌, ◌+◌, ◌≤◌, ◌==◌, ◌++◌, zero, suc, List, [], ◌∷◌, length, get_or, take, Bool, true, false, not, ◌||◌, cond, Some, Ok, le-ltb, refl, sym, ◌∙◌, ap, arith}
 use Rattle.std.specs.List.{filter, flat_map, list_all, list_any, slice_split, onto_first}
 use Rattle.std.specs.BTreeMap.{is_at}
 use Rattle.std.specs.Ordering.{nat_cmp, is_eq}
@@ -10,7 +10,7 @@ use Rattle.std.proofs.lemmas.Cmp.{tied_itself}
 use Rattle.std.proofs.lemmas.List.{append-nil, take_at, length_push}
 use Rattle.std.proofs.lemmas.List.Elements.{filter_more}
 use Rattle.std.proofs.lemmas.Slice.Eq.{slice_eq-Decides, bytes_eq-Decides}
-use Rattle.osb_tree.specs.Paths.{Names, is_dots, is_name, has_byte, names_of, path_text, parent_of, path_cmp}
+use Rattle.osb_tree.specs.Paths.{Names, joined, is_dots, is_name, has_byte, names_of, path_text, parent_of, path_cmp}
 
 -- Two paths of one place in the order are the same.
 pub same_path : (p q : Names) → is_at (path_cmp p) q ≡ true → p ≡ q
@@ -24,6 +24,11 @@ pub parent_of-append : (names : Names) (name : List ℕ) → parent_of (names ++
 parent_of-append [] name = refl
 parent_of-append (first ∷ names) name =
     ap Some (take_at (first ∷ names) (name ∷ []) _ (omega (arith, length_push names name)))
+
+pub joined-short : (names rest all : Names) → all ≡ names ++ rest → length (path_text all) ≤ 4096 → Ok all ≡ joined names rest
+joined-short names rest all e short =
+    let fits = le-ltb 4096 (length (path_text (names ++ rest))) (rw e at short) in
+    rw (e, fits) refl
 
 -- The text of a path has each of its names after a `/`; only that of the root has more.
 pub length-flat_map-le : (names : Names) → length (flat_map (λ n. 47 ∷ n) names) ≤ length (path_text names)

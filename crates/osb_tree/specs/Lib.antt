@@ -2,3 +2,4 @@ pub mod Paths
 pub mod Nodes
 pub mod Trees
 pub mod Laws
+pub mod Accounts

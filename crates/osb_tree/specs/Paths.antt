@@ -1,5 +1,6 @@
--- Names and paths as lists. A path is the list of its names from the root, and the root is the empty list.
-use Rattle.std.specs.Prelude.{ℕ, ◌≤◌, ◌==◌, Bool, true, false, not, ◌&&◌, ◌||◌, List, [], ◌∷◌, length, take, codes, IsTrue, nat_lt, slice_index, Option, Some, None, Result, Ok, Err, if◌then◌else◌}
+-- Paths, by what leads to them from the root: a name for each directory that is entered, and then their own. Nothing
+-- leads to the root.
+use Rattle.std.specs.Prelude.{ℕ, ◌≤◌, ◌==◌, Bool, true, false, not, ◌&&◌, ◌||◌, List, [], ◌∷◌, ◌++◌, length, take, codes, IsTrue, nat_lt, slice_index, Option, Some, None, Result, Ok, Err, if◌then◌else◌}
 use Rattle.std.specs.List.{filter, flat_map, list_all, list_any, slice_split}
 use Rattle.std.specs.declared.cmp.Ordering.{Ordering}
 use Rattle.std.specs.Ordering.{nat_cmp}
@@ -21,11 +22,12 @@ is_dots name = pointwise ◌==◌ name (codes ".") || pointwise ◌==◌ name (c
 abbrev pub has_byte : ℕ → List ℕ → Bool
 has_byte byte text = list_any (λ b. b == byte) text
 
--- a name is not empty, is neither `.` nor `..`, and has neither `/` nor NUL
+-- what an entry of a directory may be called: some bytes, without the two that no file name has (`/` and NUL), and none
+-- of the two entries that are there by themselves
 abbrev pub is_name : List ℕ → Bool
 is_name name = not (length name == 0) && not (is_dots name) && not (has_byte 47 name) && not (has_byte 0 name)
 
--- the text of a path: each name after a `/`, and `/` alone for the root
+-- how a path is written: with a slash before every name, and the root as a lone slash
 abbrev pub path_text : Names → List ℕ
 path_text [] = codes "/"
 path_text (name ∷ names) = flat_map (λ n. 47 ∷ n) (name ∷ names)
@@ -49,6 +51,10 @@ path_of text =
     else if nat_lt 4096 (length (path_text (names_of text))) then Err TooLong
     else Ok (names_of text)
 
+-- the path with some names after its own
+abbrev pub joined : Names → Names → Result Names PathFault
+joined names rest = if nat_lt 4096 (length (path_text (names ++ rest))) then Err TooLong else Ok (names ++ rest)
+
 -- the path of the directory that holds a path; the root has none
 abbrev pub parent_of : Names → Option Names
 parent_of [] = None
@@ -61,7 +67,7 @@ is_beneath [] (q ∷ qs) = true
 is_beneath (p ∷ ps) [] = false
 is_beneath (p ∷ ps) (q ∷ qs) = pointwise ◌==◌ p q && is_beneath ps qs
 
--- names by their bytes, and paths as lists of names: so a directory stands before what is beneath it
+-- byte by byte, and name by name: right behind a directory comes what is beneath it
 abbrev pub name_cmp : List ℕ → List ℕ → Ordering
 name_cmp = slice_cmp nat_cmp
 

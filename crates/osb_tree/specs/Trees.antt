@@ -1,4 +1,4 @@
--- A tree is a finite map from paths to nodes, here as its listing: the pairs in path order.
+-- What stands where in a tree, written down as its listing: an entry for each path, sorted by path.
 use Rattle.std.specs.Prelude.{ℕ, ◌+◌, ◌≤◌, ◌==◌, Bool, false, not, ◌&&◌, ◌||◌, List, [], ◌∷◌, ◌++◌, length, nat_lt, Option, Some, None, option_and_then, IsTrue, IsSome, if◌then◌else◌}
 use Rattle.std.specs.Option.{option_or}
 use Rattle.std.specs.Ordering.{is_lt}
@@ -16,7 +16,7 @@ use Rattle.osb_tree.specs.declared.faults.PutFault.TheVariants.{ParentMissing, P
 abbrev pub Listing : Type 0
 Listing = List (Names × Node)
 
--- what the map has at a path
+-- what the listing has at a path
 abbrev pub node_at : Listing → Names → Option Node
 node_at listing path = lookup (is_at (path_cmp path)) listing
 
@@ -27,15 +27,15 @@ is_directory_at listing path = test (node_at listing path)
     test None = false
     test (Some node) = is_directory node
 
--- the share of one path: 64 bytes, the path's text, and the content or the target
+-- what one path adds to the size: 64, and one for each byte of its text and of what it holds
 abbrev pub weight : Names × Node → ℕ
 weight entry = 64 + length (path_text entry.0) + content_length entry.1
 
 abbrev pub tree_size : Listing → ℕ
 tree_size listing = sum_by weight listing
 
--- what a listing has to be: paths in order, nodes that may be, a directory at the root, and a directory above
--- each path
+-- when a listing is that of a tree: sorted, of true paths and nodes, and whatever stands in it stands in a directory of
+-- it, but for the root, which is one
 pub record IsTree (listing : Listing) : Type 0 where
   pub ordered : IsStrictlySortedBy path_cmp (keys_of listing)
   pub paths : AllByRecursion IsPath (keys_of listing)
@@ -56,7 +56,7 @@ empty_tree = (root, Dir 493 0 0) ∷ []
 abbrev pub put_at : Listing → Names → Node → Listing
 put_at listing path node = insert_entry path_cmp listing path node
 
--- the least path of the map that is greater than the given one, which may be in the map or not
+-- where a walk goes on after a path, which need not be in the listing: at the first one behind it
 abbrev pub next_after : Listing → Names → Option Names
 next_after [] after = None
 next_after (entry ∷ entries) after = if is_lt (path_cmp after entry.0) then Some entry.0 else next_after entries after

@@ -1,5 +1,5 @@
 use crate::{List, Path, Shared, Text, Tree};
-use std::alloc::AllocError;
+use std::alloc::{AllocError, AllocFailed};
 use thiserror::Error;
 
 /// Why a text gives no path.
@@ -38,13 +38,13 @@ impl From<AllocError> for PathFault {
 /// Why a node can't be put at a path.
 #[derive(Debug, Drop)]
 pub enum PutFault {
-    /// 1: the directory that the path would stand in is absent.
+    /// 1: there is no directory to put it into.
     ParentMissing,
-    /// 2: what stands there is no directory.
+    /// 2: what stands above it can hold nothing.
     ParentNotDir,
-    /// 3: a file or link would take the place of the root, or of a directory with something beneath it.
+    /// 3: only a directory can stand there, since it is the root or holds something.
     NotEmpty,
-    /// 4: the tree would have over 262,144 paths, or a size over 268,435,456.
+    /// 4: with it there would be more paths than `MAX_PATHS`, or more bytes than `MAX_SIZE`.
     TooLarge,
     NoMemory,
 }
@@ -69,17 +69,39 @@ pub struct Inputs {
 /// Why a stage's options are refused: the member, by its name.
 #[derive(Debug, Drop)]
 pub enum OptionFault {
-    /// 1: a required member is absent.
+    /// 1: it has to be there, and isn't.
     Missing(Text),
-    /// 2: the member is a value of another kind.
+    /// 2: it is JSON of another kind, as a text for a number.
     WrongKind(Text),
-    /// 3: the value is of the right kind, and outside the stated set.
+    /// 3: its kind is right, and its value is not one of those that may be.
     OutOfRange(Text),
-    /// 4: the text is no path.
+    /// 4: it has to name a path, and names none.
     BadPath(Text),
-    /// 5: no such member is known.
+    /// 5: nothing is called so here.
     UnknownMember(Text),
     NoMemory,
+}
+
+impl From<AllocError> for OptionFault {
+    ghost use Rattle.std.specs.Prelude.{◌≡◌};
+    ghost use Rattle.osb_tree.specs.declared.faults.OptionFault.TheVariants.{NoMemory};
+
+    ghost from_gives = { λ _ e. e ≡ NoMemory };
+
+    fn from(_error: AllocError) -> Self {
+        OptionFault::NoMemory
+    }
+}
+
+impl<T: Drop> From<AllocFailed<T>> for OptionFault {
+    ghost use Rattle.std.specs.Prelude.{◌≡◌};
+    ghost use Rattle.osb_tree.specs.declared.faults.OptionFault.TheVariants.{NoMemory};
+
+    ghost from_gives = { λ _ e. e ≡ NoMemory };
+
+    fn from(_failed: AllocFailed<T>) -> Self {
+        OptionFault::NoMemory
+    }
 }
 
 /// Why a stage has no tree.

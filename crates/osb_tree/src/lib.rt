@@ -1,6 +1,7 @@
 //! The lowest layer: texts, paths, nodes and trees, as every other crate sees them.
 #![tactic(auto)]
 
+pub mod accounts;
 mod faults;
 pub mod laws;
 mod lists;
@@ -22,7 +23,7 @@ pub use paths::Path;
 pub use shares::Shared;
 use std::alloc::AllocError;
 pub use texts::{Bytes, Text};
-pub use trees::Tree;
+pub use trees::{MAX_PATHS, MAX_SIZE, Tree};
 
 /// Want of memory: the one error of a call that can fail for nothing else.
 pub type NoMemory = AllocError;

@@ -18,19 +18,19 @@ impl<T> Model for List<T> {
 
 impl<T> List<T> {
     pub fn new(items: Vec<T>) -> Self
-        ensures { result ≡ items.items }
+        ensures items { result ≡ items.items }
     {
         List { items }
     }
 
     pub fn as_slice(&self) -> &[T]
-        ensures { result.now ≡ self.now }
+        ensures items { result.now ≡ self.now }
     {
         &self.items
     }
 
     pub fn into_vec(self) -> Vec<T>
-        ensures { result.items ≡ self }
+        ensures items { result.items ≡ self }
     {
         self.items
     }

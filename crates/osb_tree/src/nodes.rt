@@ -28,7 +28,7 @@ pub enum Node {
 impl Node {
     /// Whether mode, owners and target are in their ranges.
     pub fn in_range(&self) -> bool
-        ensures { IsTrue result ↔ InRange self.now }
+        ensures in_range { IsTrue result ↔ InRange self.now }
     {
         match self {
             Node::Dir { mode, uid, gid } => is_mode(*mode) && are_owners(*uid, *gid),
@@ -54,56 +54,4 @@ fn is_target(target: &str) -> bool
     ensures { IsTrue result ↔ IsTarget target.now }
 {
     !target.is_empty() && target.len() <= 4095 && !has_nul(target)
-}
-
-#[cfg(test)]
-mod tests {
-    use super::*;
-    use std::test::Fail;
-
-    #[test]
-    fn has_modes_and_owners_in_range(rt: HostRuntime) -> Result<(), Fail> {
-        for (mode, uid, gid, expected) in [
-            (0, 0, 0, true),
-            (4095, 4294967294, 4294967294, true),
-            (4096, 0, 0, false),
-            (0, 4294967295, 0, false),
-            (0, 0, 4294967295, false),
-        ] {
-            let directory = Node::Dir { mode, uid, gid };
-            assert_eq!(rt; directory.in_range(), expected, "at {directory:?}");
-            let bytes = Bytes::new(vec![in rt.alloc(); 1u8]?);
-            let file = Node::File {
-                mode,
-                uid,
-                gid,
-                bytes,
-            };
-            assert_eq!(rt; file.in_range(), expected, "at {file:?}");
-        }
-        Ok(())
-    }
-
-    #[test]
-    fn has_targets_in_range(rt: HostRuntime) -> Result<(), Fail> {
-        let alloc = rt.alloc();
-        let longest = "a".repeat(alloc, 4095)?;
-        let too_long = "a".repeat(alloc, 4096)?;
-        for (target, expected) in [
-            ("", false),
-            ("a", true),
-            ("../a/.", true),
-            ("a\0b", false),
-            (longest.as_str(), true),
-            (too_long.as_str(), false),
-        ] {
-            let link = Node::Link {
-                uid: 0,
-                gid: 4294967294,
-                target: Text::new(alloc, target)?,
-            };
-            assert_eq!(rt; link.in_range(), expected, "at {} bytes", target.len());
-        }
-        Ok(())
-    }
 }

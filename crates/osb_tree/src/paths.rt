@@ -5,7 +5,7 @@ ghost use Rattle.std.specs.Cmp.{partial_order_from_own_ties};
 ghost use Rattle.std.specs.Cmp.Lexicographic.{pointwise, slice_cmp, lists_ties, lists_total, nat_list_cmp_total, texts_ties};
 ghost use Rattle.std.specs.Cmp.Rules.{comparing};
 ghost use Rattle.std.proofs.Common.{rules};
-ghost use Rattle.osb_tree.specs.Paths.{Names, root, is_name, is_dots, IsPath, names_of, path_of, path_text, parent_of};
+ghost use Rattle.osb_tree.specs.Paths.{Names, root, is_name, is_dots, IsPath, names_of, path_of, path_text, joined, parent_of};
 
 use crate::names::has_nul;
 use crate::{Name, NoMemory, PathFault, Text};
@@ -32,7 +32,7 @@ impl Model for Path {
 
 impl Path {
     pub fn root(alloc: Global) -> Self
-        ensures { result ≡ root }
+        ensures root { result ≡ root }
     {
         Path {
             names: Vec::new(alloc),
@@ -42,7 +42,7 @@ impl Path {
     /// The path that a text gives: names between slashes, from the root. Repeated slashes and slashes at the end
     /// are accepted.
     pub fn read(alloc: Global, text: &str) -> Result<Self, PathFault>
-        ensures { result ≢ Err PathFault.NoMemory → result ≡ path_of text.now }
+        ensures path { result ≢ Err PathFault.NoMemory → result ≡ path_of text.now }
     {
         if text.is_empty() {
             return Err(PathFault::Empty);
@@ -72,7 +72,7 @@ impl Path {
     }
 
     pub fn text(&self, alloc: Global) -> Result<Text, NoMemory>
-        ensures { IfOk result (λ text. text ≡ path_text self.now) }
+        ensures text { IfOk result (λ text. text ≡ path_text self.now) }
     {
         if self.names.is_empty() {
             return Text::new(alloc, "/");
@@ -85,9 +85,21 @@ impl Path {
         Ok(Text::from(text))
     }
 
+    /// The path with these names after its own.
+    pub fn join(&self, alloc: Global, rest: &[Name]) -> Result<Path, PathFault>
+        ensures path { result ≢ Err PathFault.NoMemory → result ≡ joined self.now rest.now }
+    {
+        let mut names = self.names.clone()?;
+        names.extend_from_slice(rest)?;
+        if !is_short(&names) {
+            return Err(PathFault::TooLong);
+        }
+        Ok(Path { names })
+    }
+
     /// The path of the directory that holds it.
     pub fn parent(&self, alloc: Global) -> Result<Option<Path>, NoMemory>
-        ensures { IfOk result (λ parent. parent ≡ parent_of self.now) }
+        ensures parent { IfOk result (λ parent. parent ≡ parent_of self.now) }
     {
         let Some((_, parents)) = self.names.split_last() else {
             return Ok(None);
@@ -166,8 +178,10 @@ fn names_between(alloc: Global, text: &str) -> Result<Vec<Name>, NoMemory>
     Ok(names)
 }
 
+/// Whether names make a path that is not too long.
 fn is_short(names: &[Name]) -> bool
-    ensures { IsTrue result ↔ (length (path_text names.now) ≤ 4096) }
+    ensures short { IsTrue result ↔ (length (path_text names.now) ≤ 4096) }
+    ensures named { IsTrue result → IsTrue (list_all is_name names.now) }
 {
     let mut room = MAX_LENGTH;
     for name in names {
@@ -178,91 +192,4 @@ fn is_short(names: &[Name]) -> bool
         room -= length + 1;
     }
     true
-}
-
-#[cfg(test)]
-mod tests {
-    use super::*;
-    use std::test::Fail;
-
-    /// The text of the path that a text gives, or why it gives none.
-    fn read_back(alloc: Global, text: &str) -> Result<String, NoMemory> {
-        match Path::read(alloc, text) {
-            Ok(path) => {
-                let text = path.text(alloc)?;
-                String::from_str(alloc, text.as_str())
-            }
-            Err(fault) => format!(in alloc; "{fault}"),
-        }
-    }
-
-    #[test]
-    fn reads_a_path_or_names_the_first_fault(rt: HostRuntime) -> Result<(), Fail> {
-        for (text, expected) in [
-            ("/", "/"),
-            ("///", "/"),
-            ("//a///b/", "/a/b"),
-            ("/usr/lib/...", "/usr/lib/..."),
-            ("", "the path is empty"),
-            ("a", "the path does not begin with a slash"),
-            ("a/..", "the path does not begin with a slash"),
-            ("/a/./b", "a name of the path is `.` or `..`"),
-            ("/..", "a name of the path is `.` or `..`"),
-            ("/./\0", "a name of the path is `.` or `..`"),
-            ("/\0/.", "a name of the path is `.` or `..`"),
-            ("/a\0", "the path has a NUL byte"),
-        ] {
-            let found = read_back(rt.alloc(), text)?;
-            assert_eq!(rt; found.as_str(), expected, "at {text:?}");
-        }
-        Ok(())
-    }
-
-    #[test]
-    fn limits_the_length_of_its_own_text(rt: HostRuntime) -> Result<(), Fail> {
-        let alloc = rt.alloc();
-        let short = format!(in alloc; "/{}", "a".repeat(alloc, 4095)?)?;
-        let long = format!(in alloc; "/{}", "a".repeat(alloc, 4096)?)?;
-        let slashes = format!(in alloc; "{}a", "/".repeat(alloc, 5000)?)?;
-        for (text, expected) in [
-            (short.as_str(), short.as_str()),
-            (long.as_str(), "the path is longer than 4096 bytes"),
-            (slashes.as_str(), "/a"),
-        ] {
-            let found = read_back(alloc, text)?;
-            assert_eq!(rt; found.as_str(), expected);
-        }
-        Ok(())
-    }
-
-    #[test]
-    fn stands_in_the_order_of_its_names(rt: HostRuntime) -> Result<(), Fail> {
-        let alloc = rt.alloc();
-        for (before, after) in [
-            ("/", "/a"),
-            ("/a", "/a-b"),
-            ("/a/b", "/a-b"),
-            ("/a/z", "/b"),
-        ] {
-            let before = Path::read(alloc, before)?;
-            let after = Path::read(alloc, after)?;
-            assert!(rt; before < after, "{before:?} before {after:?}");
-            assert_eq!(rt; after.cmp(&before), Ordering::Greater);
-        }
-        Ok(())
-    }
-
-    #[test]
-    fn stands_in_its_parent(rt: HostRuntime) -> Result<(), Fail> {
-        let alloc = rt.alloc();
-        for (text, expected) in [("/a", "/"), ("/a/b", "/a"), ("/a/b/c", "/a/b")] {
-            let path = Path::read(alloc, text)?;
-            let parent = Path::read(alloc, expected)?;
-            assert_eq!(rt; path.parent(alloc)?, Some(parent), "at {text}");
-        }
-        let root = Path::read(alloc, "/")?.clone()?;
-        assert_eq!(rt; root, Path::root(alloc));
-        assert_eq!(rt; root.parent(alloc)?, None);
-        Ok(())
-    }
 }

@@ -8,20 +8,20 @@ use crate::{Node, Path};
 
 /// Whether the other path lies beneath the path.
 pub fn is_beneath(path: &Path, other: &Path) -> bool
-    ensures { result ≡ is_beneath path.now other.now }
+    ensures beneath { result ≡ is_beneath path.now other.now }
 {
     path.names().len() < other.names().len() && other.names().starts_with(path.names())
 }
 
 pub fn is_directory(node: &Node) -> bool
-    ensures { result ≡ is_directory node.now }
+    ensures directory { result ≡ is_directory node.now }
 {
     matches!(node, Node::Dir { .. })
 }
 
 /// The share of a path in the size of a tree, up to the greatest number.
 pub fn weight(path: &Path, node: &Node) -> u64
-    ensures { result ≡ min (weight (path.now, node.now)) (2 ^ 64 - 1) }
+    ensures weight { result ≡ min (weight (path.now, node.now)) (2 ^ 64 - 1) }
 {
     (64 + text_length(path)).saturating_add(content_length(node))
 }

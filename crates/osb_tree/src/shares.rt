@@ -19,7 +19,7 @@ impl<T> Model for Shared<T> {
 
 impl<T: Drop> Shared<T> {
     pub fn new(alloc: Global, value: T) -> Result<Self, NoMemory>
-        ensures { IfOk result (λ s. s ≡ value) }
+        ensures value { IfOk result (λ s. s ≡ value) }
     {
         Ok(Shared {
             inner: Arc::new(alloc, value)?,
@@ -28,7 +28,7 @@ impl<T: Drop> Shared<T> {
 
     /// One more owner of the same value.
     pub fn share(&self) -> Result<Self, NoMemory>
-        ensures { IfOk result (λ s. s ≡ self.now) }
+        ensures value { IfOk result (λ s. s ≡ self.now) }
     {
         Ok(Shared {
             inner: self.inner.clone()?,
@@ -36,7 +36,7 @@ impl<T: Drop> Shared<T> {
     }
 
     pub fn get(&self) -> &T
-        ensures { result.now ≡ self.now }
+        ensures value { result.now ≡ self.now }
     {
         &self.inner
     }

@@ -21,7 +21,7 @@ impl Model for Text {
 
 impl Text {
     pub fn new(alloc: Global, text: &str) -> Result<Self, NoMemory>
-        ensures { IfOk result (λ made. made ≡ text.now) }
+        ensures content { IfOk result (λ made. made ≡ text.now) }
     {
         Ok(Text {
             text: String::from_str(alloc, text)?,
@@ -29,7 +29,7 @@ impl Text {
     }
 
     pub fn as_str(&self) -> &str
-        ensures { result.now ≡ self.now }
+        ensures content { result.now ≡ self.now }
     {
         self.text.as_str()
     }
@@ -81,25 +81,25 @@ impl Model for Bytes {
 
 impl Bytes {
     pub fn new(bytes: Vec<u8>) -> Self
-        ensures { result ≡ bytes.items }
+        ensures content { result ≡ bytes.items }
     {
         Bytes { bytes }
     }
 
     pub fn as_slice(&self) -> &[u8]
-        ensures { result.now ≡ self.now }
+        ensures content { result.now ≡ self.now }
     {
         &self.bytes
     }
 
     pub fn len(&self) -> usize
-        ensures { result ≡ length self.now }
+        ensures length { result ≡ length self.now }
     {
         self.bytes.len()
     }
 
     pub fn is_empty(&self) -> bool
-        ensures { result ≡ (length self.now == 0) }
+        ensures empty { result ≡ (length self.now == 0) }
     {
         self.bytes.is_empty()
     }

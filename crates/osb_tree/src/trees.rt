@@ -11,13 +11,12 @@ use std::marker::Model;
 use std::ops::Bound;
 
 /// How many paths a tree may have.
-const MAX_PATHS: usize = 262_144;
+pub const MAX_PATHS: usize = 262_144;
 
 /// How large a tree may be, in bytes.
-const MAX_SIZE: u64 = 268_435_456;
+pub const MAX_SIZE: u64 = 268_435_456;
 
-/// A tree of directories, files and links, which contracts see as its listing: the pairs of path and node in
-/// path order.
+/// A file system in memory. Contracts see what it lists: every path with what stands there, sorted by path.
 #[derive(Drop)]
 pub struct Tree {
     nodes: BTreeMap<Path, Node>,
@@ -37,9 +36,9 @@ impl Model for Tree {
 }
 
 impl Tree {
-    /// The root alone, with mode 0755 and owners 0.
+    /// Nothing but a root, of mode 0755 and owned by 0.
     pub fn empty(alloc: Global) -> Result<Self, NoMemory>
-        ensures { IfOk result (λ tree. tree ≡ empty_tree) }
+        ensures tree { IfOk result (λ tree. tree ≡ empty_tree) }
     {
         let mut nodes = BTreeMap::new(alloc);
         let directory = Node::Dir {
@@ -51,9 +50,9 @@ impl Tree {
         Ok(Tree { nodes, size: 65 })
     }
 
-    /// In bytes: for each path 64, its text, and the file's content or the link's target.
+    /// What all paths add up to, in bytes, as `places::weight` counts each.
     pub fn size(&self) -> u64
-        ensures { result ≡ tree_size self.now }
+        ensures size { result ≡ tree_size self.now }
     {
         self.size
     }
@@ -69,14 +68,15 @@ impl Tree {
 
     /// What stands at the path.
     pub fn get(&self, path: &Path) -> Option<&Node>
-        ensures { option_copied result ≡ node_at self.now path.now }
+        ensures node { option_copied result ≡ node_at self.now path.now }
+        ensures tree { IsTree self.now }
     {
         self.nodes.get(path)
     }
 
-    /// The least path of the tree that is greater than the given one, which may be in the tree or not.
-    pub fn next_path(&self, alloc: Global, after: &Path) -> Result<Option<Path>, NoMemory>
-        ensures { IfOk result (λ next. next ≡ next_after self.now after.now) }
+    /// Where a walk in path order goes on after a path, which the tree need not have.
+    pub fn next_path(&self, after: &Path) -> Result<Option<Path>, NoMemory>
+        ensures next { IfOk result (λ next. next ≡ next_after self.now after.now) }
     {
         match self.following(after) {
             Some(next) => Ok(Some(next.clone()?)),
@@ -84,7 +84,7 @@ impl Tree {
         }
     }
 
-    /// Sets what stands at a path. A directory keeps what is beneath it.
+    /// Puts a node where nothing stands, or in the place of what does. What is beneath a directory stays.
     pub fn put(&mut self, alloc: Global, path: Path, node: Node) -> Result<(), PutFault>
         requires { InRange node }
         ensures ok { OnOk result ((put_fault self.old path node ≡ None) × (self.new ≡ put_at self.old path node)) }
@@ -170,6 +170,3 @@ impl Tree {
         Some(next)
     }
 }
-
-#[cfg(test)]
-mod tests;

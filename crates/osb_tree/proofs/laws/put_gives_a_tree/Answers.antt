@@ -2,4 +2,4 @@ use Rattle.osb_tree.proofs.Puts.{IsTree-put_at}
 use Rattle.osb_tree.proofs.laws.put_gives_a_tree.Goals as goal
 
 pub returns : goal.returns
-returns c = IsTree-put_at
+returns c = record { law = IsTree-put_at }

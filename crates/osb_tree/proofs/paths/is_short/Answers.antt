@@ -9,4 +9,4 @@ returns-then-length-room c =
     let names = c.args.names.now in
     let most = length-flat_map-take (λ n. 47 ∷ n) names c.loop-name.name-index c.name-item.result c.loop-name-test.true in
     let at_name = ap length (c.as_str-length.ensures.text ∙ c.name-item.is) in
-    (λ e. absurd (false≢true e), λ short. absurd (omega (arith, length-flat_map-le names, most, at_name)))
+    record { short = (λ e. absurd (false≢true e), λ short. absurd (omega (arith, length-flat_map-le names, most, at_name))); named = λ e. absurd (false≢true e) }

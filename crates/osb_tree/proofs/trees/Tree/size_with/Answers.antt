@@ -15,6 +15,6 @@ pub returns : goal.returns
 returns c =
     let sum : AddsUp c.args.self.now c.args.path.now c.args.node.now c.saturating_add-size.result = record {
       tree = c.has_room_for.ensures.tree;
-      is = rw (← c.weight.ensures, ← c.share_at.ensures, ← c.self.view_is, ← c.self.invariant.0) c.saturating_add-size.ensures;
+      is = rw (← c.weight.ensures.weight, ← c.share_at.ensures, ← c.self.view_is, ← c.self.invariant.0) c.saturating_add-size.ensures;
     } in
     is_too_large-answered _ _ _ c.saturating_add-size.result _ sum (c.if-not-has_room_for.ensures.room.0 refl) c.then_some.ensures
