@@ -5,6 +5,3 @@
 mod trees;
 
 pub use trees::PlainTree;
-
-#[cfg(test)]
-mod tests;

@@ -5,17 +5,11 @@ ghost use Rattle.osb_tree.specs.Paths.{path_cmp};
 ghost use Rattle.osb_tree.specs.Trees.{empty_tree, tree_size, node_at, next_after, put_at, put_fault, parent_fault, takes_over, has_beneath, is_too_large};
 
 use osb_tree::places::{is_beneath, is_directory, weight};
-use osb_tree::{NoMemory, Node, Path, PutFault};
+use osb_tree::{MAX_PATHS, MAX_SIZE, NoMemory, Node, Path, PutFault};
 use std::alloc::Global;
 use std::marker::Model;
 
-/// How many paths a tree may have.
-const MAX_PATHS: usize = 262_144;
-
-/// How large a tree may be, in bytes.
-const MAX_SIZE: u64 = 268_435_456;
-
-/// A tree as the list of its paths and nodes in path order, with no index and no kept size.
+/// A file system in memory, kept as nothing but the sorted list of what it has.
 #[derive(Drop)]
 pub struct PlainTree {
     entries: Vec<(Path, Node)>,
@@ -41,9 +35,9 @@ impl Clone for PlainTree {
 }
 
 impl PlainTree {
-    /// The root alone, with mode 0755 and owners 0.
+    /// Nothing but a root, of mode 0755 and owned by 0.
     pub fn empty(alloc: Global) -> Result<Self, NoMemory>
-        ensures { IfOk result (λ tree. tree ≡ empty_tree) }
+        ensures tree { IfOk result (λ tree. tree ≡ empty_tree) }
     {
         let directory = Node::Dir {
             mode: 0o755,
@@ -57,7 +51,7 @@ impl PlainTree {
 
     /// In bytes, up to the greatest number.
     pub fn size(&self) -> u64
-        ensures { result ≡ min (tree_size self.now) (2 ^ 64 - 1) }
+        ensures size { result ≡ min (tree_size self.now) (2 ^ 64 - 1) }
     {
         let mut size = 0u64;
         for (path, node) in &self.entries {
@@ -67,14 +61,14 @@ impl PlainTree {
     }
 
     pub fn len(&self) -> usize
-        ensures { result ≡ length self.now }
+        ensures length { result ≡ length self.now }
     {
         self.entries.len()
     }
 
     /// What stands at the path.
     pub fn get(&self, path: &Path) -> Option<&Node>
-        ensures { option_copied result ≡ node_at self.now path.now }
+        ensures node { option_copied result ≡ node_at self.now path.now }
     {
         for (held, node) in &self.entries {
             if path == held {
@@ -84,9 +78,9 @@ impl PlainTree {
         None
     }
 
-    /// The least path of the tree that is greater than the given one, which may be in the tree or not.
+    /// Where a walk in path order goes on after a path, which the tree need not have.
     pub fn next_path(&self, after: &Path) -> Option<&Path>
-        ensures { option_copied result ≡ next_after self.now after.now }
+        ensures next { option_copied result ≡ next_after self.now after.now }
     {
         for (path, _) in &self.entries {
             if after < path {
@@ -96,7 +90,7 @@ impl PlainTree {
         None
     }
 
-    /// Sets what stands at a path. A directory keeps what is beneath it.
+    /// Puts a node where nothing stands, or in the place of what does. What is beneath a directory stays.
     pub fn put(&mut self, alloc: Global, path: Path, node: Node) -> Result<(), PutFault>
         ensures ok { OnOk result ((put_fault self.old path node ≡ None) × (self.new ≡ put_at self.old path node)) }
         ensures fault { IfErr result (λ fault. fault ≢ PutFault.NoMemory → put_fault self.old path node ≡ Some fault) }
