@@ -1,9 +1,11 @@
 -- A value with a fraction in it has no text.
-use Rattle.std.proofs.Common.{◌≡◌, ℕ, Bool, true, false, ◌||◌, cond, List, codes, Option, Some, None, refl, ap, ◌∙◌}
+use Rattle.std.proofs.Common.{◌≡◌, ℕ, Bool, true, false, ◌||◌, cond, List, codes, Option, Some, None, Result, Ok, Err, IsErr, ◌≢◌, refl, sym, ap, ◌∙◌, true≢false}
 use Rattle.serde_json.specs.Data.{Num, unsigned, negative, float, Data, null, boolean, number, string, array, object, Items, no_items, item, Members, no_members, member}
 use Rattle.serde_json.specs.Find.{is_float}
 use Rattle.serde_json.specs.Written.{has_float, items_have_float, members_have_float}
-use Rattle.osb_pyjson.specs.PyText.{◌<+>◌, py_number, py_text_string, py_data, py_items, py_more_items, py_members, py_more_members}
+use Rattle.osb_pyjson.specs.PyText.{◌<+>◌, py_number, py_text_string, py_data, py_items, py_more_items, py_members, py_more_members, py_text_of}
+use Rattle.osb_pyjson.specs.declared.faults.PyFault.{PyFault}
+use Rattle.osb_pyjson.specs.declared.faults.PyFault.TheVariants.{NotWhole, NoMemory}
 use Rattle.std.specs.Ordering.{nat_cmp, is_lt}
 use Rattle.std.specs.Cmp.Lexicographic.{slice_cmp}
 
@@ -56,3 +58,9 @@ mutual
   more_members_missing before no_members h = cc
   more_members_missing before (member key d members) h =
       if_missing (is_lt (slice_cmp nat_cmp before key)) _ (member_missing (codes ", ") (py_text_string key) (py_data d <+> py_more_members key members) (one_missing (has_float d) (members_have_float members) (py_data d) (py_more_members key members) (λ e. float_has_no_text d e) (λ e. more_members_missing key members e) h))
+
+-- an error that says so where a fraction is the cause is the value's
+pub py_text_of-refused : (d : Data) (r : Result (List ℕ) PyFault) → IsErr r → (r ≡ Err NotWhole → has_float d ≡ true) → r ≢ Err NoMemory → r ≡ py_text_of d
+py_text_of-refused d (Ok text) err fraction other = absurd (true≢false (sym err))
+py_text_of-refused d (Err NotWhole) err fraction other = rw (float_has_no_text d (fraction refl)) refl
+py_text_of-refused d (Err NoMemory) err fraction other = absurd (other refl)

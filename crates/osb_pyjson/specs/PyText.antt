@@ -1,7 +1,7 @@
 -- The text that Python's `json.dumps(value, sort_keys=True)` gives with its defaults, over the data of a
 -- `serde_json` value. Data that no value holds has none: numbers past their range, texts that are no UTF-8,
 -- members out of order.
-use Rattle.std.specs.Prelude.{ℕ, ◌/◌, ◌%◌, ◌^◌, ◌==◌, true, false, pos, negsuc, List, [], ◌∷◌, ◌++◌, codes, nat_lt, nat_le, ◌&&◌, Option, Some, None, option_map, option_and_then, if◌then◌else◌}
+use Rattle.std.specs.Prelude.{ℕ, ◌/◌, ◌%◌, ◌^◌, ◌==◌, true, false, pos, negsuc, List, [], ◌∷◌, ◌++◌, codes, nat_lt, nat_le, ◌&&◌, Option, Some, None, option_map, option_and_then, Result, Ok, Err, if◌then◌else◌}
 use Rattle.std.specs.List.{flat_map}
 use Rattle.std.specs.Fmt.{decimal, signed_decimal}
 use Rattle.std.specs.Str.{chars, is_utf8}
@@ -9,6 +9,8 @@ use Rattle.std.specs.Char.{digit_char}
 use Rattle.std.specs.Char.Escape.{encode_utf16}
 use Rattle.std.specs.Ordering.{nat_cmp, is_lt}
 use Rattle.std.specs.Cmp.Lexicographic.{slice_cmp}
+use Rattle.osb_pyjson.specs.declared.faults.PyFault.{PyFault}
+use Rattle.osb_pyjson.specs.declared.faults.PyFault.TheVariants.{NotWhole}
 use Rattle.serde_json.specs.Data.{Num, unsigned, negative, float, Data, null, boolean, number, string, array, object, Items, no_items, item, Members, no_members, member}
 
 -- ---- texts
@@ -84,3 +86,11 @@ abbrev mutual
   py_more_members before no_members = Some (codes "}")
   py_more_members before (member key d members) =
       if is_lt (slice_cmp nat_cmp before key) then Some (codes ", ") <+> py_text_string key <+> Some (codes ": ") <+> py_data d <+> py_more_members key members else None
+
+-- the text of a value, or that a number in it is not whole
+abbrev pub py_text_of : Data → Result (List ℕ) PyFault
+py_text_of value = told (py_data value)
+  where
+    told : Option (List ℕ) → Result (List ℕ) PyFault
+    told None = Err NotWhole
+    told (Some text) = Ok text

@@ -5,5 +5,5 @@ ghost use Rattle.osb_pyjson.specs.PyText.{py_data};
 
 /// Values with the same text are equal.
 pub fn py_text_tells_values()
-    ensures { (a b : Data) (text : List ℕ) → py_data a ≡ Some text → py_data b ≡ Some text → a ≡ b }
+    ensures law { (a b : Data) (text : List ℕ) → py_data a ≡ Some text → py_data b ≡ Some text → a ≡ b }
 {}

@@ -5,8 +5,6 @@ mod escapes;
 mod faults;
 mod laws;
 mod quotes;
-#[cfg(test)]
-mod tests;
 mod writers;
 
 pub use faults::PyFault;

@@ -30,7 +30,7 @@ pub fn write_quoted(out: &mut String, text: &str) -> Result<(), NoMemory>
 
 /// The text that Python's `json.dumps` gives for one text, with its defaults.
 pub fn py_string(alloc: Global, text: &str) -> Result<Text, NoMemory>
-    ensures { IfOk result (λ quoted. quoted ≡ py_quoted text.now) }
+    ensures quoted { IfOk result (λ quoted. quoted ≡ py_quoted text.now) }
 {
     let mut out = String::new(alloc);
     write_quoted(&mut out, text)?;

@@ -1,8 +1,8 @@
-ghost use Rattle.std.specs.Prelude.{◌≡◌, ◌++◌, true, Some, codes, IfOk, IsErr, OnOk, string_bytes};
+ghost use Rattle.std.specs.Prelude.{◌≡◌, ◌≢◌, ◌++◌, Err, true, Some, codes, IsErr, OnOk, string_bytes};
 ghost use Rattle.serde_json.specs.View.{view, number_view, items_view, members_view};
 ghost use Rattle.serde_json.specs.Written.{has_float, items_have_float, members_have_float};
 ghost use Rattle.serde_json.specs.Find.{is_float};
-ghost use Rattle.osb_pyjson.specs.PyText.{◌<+>◌, py_number, py_text_string, py_data, py_items, py_members};
+ghost use Rattle.osb_pyjson.specs.PyText.{◌<+>◌, py_number, py_text_string, py_data, py_items, py_members, py_text_of};
 ghost use Rattle.osb_pyjson.specs.Written.{after, separator};
 
 use crate::faults::PyFault;
@@ -104,9 +104,9 @@ fn write_members(out: &mut String, members: &Map<String, Value>) -> Result<(), P
     Ok(())
 }
 
-/// The text that Python's `json.dumps(value, sort_keys=True)` gives with its defaults.
+/// A value as Python's `json.dumps` writes it where `sort_keys` is set, and nothing else.
 pub fn py_text(alloc: Global, value: &Value) -> Result<Text, PyFault>
-    ensures text { IfOk result (λ text. py_data (view value.now) ≡ Some text) }
+    ensures text { result ≢ Err PyFault.NoMemory → result ≡ py_text_of (view value.now) }
     ensures not_whole { result ≡ Err PyFault.NotWhole → has_float (view value.now) ≡ true }
     ensures whole { has_float (view value.now) ≡ true → IsErr result }
 {
