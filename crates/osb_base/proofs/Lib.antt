@@ -1,3 +1,3 @@
+pub mod DigestTexts
 pub mod Cuts
-pub mod FewFiles
 pub mod NamedItems

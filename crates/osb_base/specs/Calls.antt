@@ -1,4 +1,4 @@
--- The calls of an object in memory, counted from 1, of which some are to fail.
+-- An object in memory is told beforehand which of its calls fail. The first call has the number 1.
 use Rattle.std.specs.Prelude.{◌≡◌, ◌↔◌, ℕ, Bool, IsTrue, ◌==◌, List, Result, Err, OnOk}
 use Rattle.std.specs.List.{list_any}
 use Rattle.osb_base.specs.Faults.{next_count}

@@ -1,4 +1,4 @@
-ghost use Rattle.std.specs.Prelude.{◌≡◌, ℕ, List, [], Option, Some, option_map, IfOk};
+ghost use Rattle.std.specs.Prelude.{◌≡◌, ℕ, List, [], Option, Some, option_map, Err, IfOk};
 ghost use Rattle.osb_base.specs.declared.exporters.Op.{Op};
 ghost use Rattle.osb_base.specs.Faults.{HasCause};
 ghost use Rattle.osb_base.specs.Calls.{no_calls, IsCall};
@@ -53,7 +53,8 @@ pub trait Exporter {
         gid: u32,
     ) -> Result<(), WriteStop>
         ensures done { done self.new ≡ option_map (after_op result (Op.Dir path.now mode uid gid)) (done self.old) }
-        ensures cause { HasCause WriteStop.Failed (export_faults self.old) (export_faults self.new) result };
+        ensures cause { HasCause WriteStop.Failed (export_faults self.old) (export_faults self.new) result }
+        ensures unmade { result ≡ Err WriteStop.NoMemory → export_faults self.new ≡ export_faults self.old };
 
     fn file(
         &mut self,
@@ -65,7 +66,8 @@ pub trait Exporter {
         bytes: &[u8],
     ) -> Result<(), WriteStop>
         ensures done { done self.new ≡ option_map (after_op result (Op.File path.now mode uid gid bytes.now)) (done self.old) }
-        ensures cause { HasCause WriteStop.Failed (export_faults self.old) (export_faults self.new) result };
+        ensures cause { HasCause WriteStop.Failed (export_faults self.old) (export_faults self.new) result }
+        ensures unmade { result ≡ Err WriteStop.NoMemory → export_faults self.new ≡ export_faults self.old };
 
     fn link(
         &mut self,
@@ -76,12 +78,14 @@ pub trait Exporter {
         target: &str,
     ) -> Result<(), WriteStop>
         ensures done { done self.new ≡ option_map (after_op result (Op.Link path.now uid gid target.now)) (done self.old) }
-        ensures cause { HasCause WriteStop.Failed (export_faults self.old) (export_faults self.new) result };
+        ensures cause { HasCause WriteStop.Failed (export_faults self.old) (export_faults self.new) result }
+        ensures unmade { result ≡ Err WriteStop.NoMemory → export_faults self.new ≡ export_faults self.old };
 
     /// Ends the export into a folder, with the list of what was exported.
     fn finish(&mut self, alloc: Global, folder: &str, list: &[u8]) -> Result<(), WriteStop>
         ensures done { done self.new ≡ option_map (after_op result (Op.Finish folder.now list.now)) (done self.old) }
-        ensures cause { HasCause WriteStop.Failed (export_faults self.old) (export_faults self.new) result };
+        ensures cause { HasCause WriteStop.Failed (export_faults self.old) (export_faults self.new) result }
+        ensures unmade { result ≡ Err WriteStop.NoMemory → export_faults self.new ≡ export_faults self.old };
 }
 
 fn dir_op(alloc: Global, path: &str, mode: u32, uid: u32, gid: u32) -> Result<Op, NoMemory>
@@ -154,7 +158,7 @@ impl Model for MemExporter {
 impl MemExporter {
     /// An exporter that did nothing yet, of whose calls, counted from 1, those in `fail` fail.
     pub fn new(alloc: Global, fail: Vec<u64>) -> Self
-        ensures { result ≡ record { ops = []; calls = no_calls fail.items } }
+        ensures state { result ≡ record { ops = []; calls = no_calls fail.items } }
     {
         MemExporter {
             done: Vec::new(alloc),
@@ -163,7 +167,7 @@ impl MemExporter {
     }
 
     pub fn done(&self) -> &[Op]
-        ensures { result.now ≡ self.now.ops }
+        ensures ops { result.now ≡ self.now.ops }
     {
         &self.done
     }
@@ -260,9 +264,18 @@ pub struct SureExporter {
     done: Vec<Op>,
 }
 
+impl Model for SureExporter {
+    ghost use Rattle.std.specs.Prelude.{List};
+    ghost use Rattle.osb_base.specs.declared.exporters.Op.{Op};
+
+    ghost Value = { List Op };
+
+    ghost view = { λ e. e.done.items };
+}
+
 impl SureExporter {
     pub fn new(alloc: Global) -> Self
-        ensures { ⟦<SureExporter as Exporter>⟧.done result ≡ Some [] }
+        ensures unused { result ≡ [] }
     {
         SureExporter {
             done: Vec::new(alloc),
@@ -271,7 +284,7 @@ impl SureExporter {
 }
 
 impl Exporter for SureExporter {
-    ghost done = { λ e. Some e.done.items };
+    ghost done = { λ e. Some e };
 
     ghost export_faults = { λ _. 0 };
 

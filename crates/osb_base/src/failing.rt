@@ -19,7 +19,7 @@ impl Model for FailingCalls {
 
 impl FailingCalls {
     pub fn new(failing: Vec<u64>) -> Self
-        ensures { result ≡ no_calls failing.items }
+        ensures calls { result ≡ no_calls failing.items }
     {
         FailingCalls {
             failing,
@@ -30,7 +30,7 @@ impl FailingCalls {
 
     /// Whether the next call is to fail.
     pub fn fails_next(&self) -> bool
-        ensures { result ≡ is_to_fail self.now }
+        ensures fails { result ≡ is_to_fail self.now }
     {
         let number = self.made.saturating_add(1);
         self.failing.contains(&number)
@@ -38,7 +38,7 @@ impl FailingCalls {
 
     /// Counts a call that was done.
     pub fn count_call(&mut self)
-        ensures { self.new ≡ with_call self.old }
+        ensures counted { self.new ≡ with_call self.old }
     {
         self.made = self.made.saturating_add(1);
     }

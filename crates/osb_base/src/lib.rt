@@ -2,18 +2,19 @@
 //! written. Each end is a trait, with objects in memory beside it.
 #![tactic(auto)]
 
+mod digests;
 mod exporters;
 mod failing;
 mod faults;
+pub mod laws;
 mod lookups;
 mod shelves;
 mod sinks;
-#[cfg(test)]
-mod tests;
 
+pub use digests::{Digest, DigestFault};
 pub use exporters::{Exporter, MemExporter, Op, SureExporter};
 pub use faults::{Failed, ReadStop, WriteStop};
 pub use lookups::find_named;
-pub use osb_tree::{Bytes, Key, List, NoMemory, TaskNo, Text, WorkerNo};
+pub use osb_tree::{Bytes, Key, List, Name, NoMemory, Path, TaskNo, Text, WorkerNo};
 pub use shelves::{MOST_FILE_BYTES, MemShelf, Shelf, SureShelf};
 pub use sinks::{MemSink, Sink, SureSink};

@@ -6,7 +6,7 @@ use crate::Text;
 
 /// What stands under a name in a list of named items: of several, the first.
 pub fn find_named<'a, T>(items: &'a [(Text, T)], name: &str) -> Option<&'a T>
-    ensures { option_copied result ≡ lookup (pointwise ◌==◌ name.now) items.now }
+    ensures found { option_copied result ≡ lookup (pointwise ◌==◌ name.now) items.now }
 {
     for (held, item) in items {
         if name == held.as_str() {

@@ -1,4 +1,4 @@
-ghost use Rattle.std.specs.Prelude.{◌≡◌, ◌≤◌, ℕ, List, length, Option, Some, IfOk, IfSome};
+ghost use Rattle.std.specs.Prelude.{◌≡◌, ◌≤◌, ℕ, List, length, Option, Some, Err, IfOk, IfSome};
 ghost use Rattle.osb_base.specs.Faults.{HasCause};
 ghost use Rattle.osb_base.specs.Calls.{no_calls, IsCall};
 ghost use Rattle.osb_base.specs.Shelves.{AreFiles, ShelfState, IsRead, IsCut, cut};
@@ -20,7 +20,8 @@ pub trait Shelf {
         ensures kept { files self.new ≡ files self.old }
         ensures found { IfSome (files self.old) (λ held. IsRead held name.now result) }
         ensures short { IsCut result }
-        ensures cause { HasCause ReadStop.Failed (shelf_faults self.old) (shelf_faults self.new) result };
+        ensures cause { HasCause ReadStop.Failed (shelf_faults self.old) (shelf_faults self.new) result }
+        ensures unmade { result ≡ Err ReadStop.NoMemory → shelf_faults self.new ≡ shelf_faults self.old };
 }
 
 /// A shelf in memory, some of whose calls fail.
@@ -40,7 +41,7 @@ impl MemShelf {
     /// A shelf with these files, of whose calls, counted from 1, those in `fail` fail.
     pub fn new(files: Vec<(Text, Bytes)>, fail: Vec<u64>) -> Self
         requires { AreFiles files.items }
-        ensures { result ≡ record { held = files.items; calls = no_calls fail.items } }
+        ensures state { result ≡ record { held = files.items; calls = no_calls fail.items } }
     {
         MemShelf {
             files,
@@ -77,17 +78,25 @@ pub struct SureShelf {
     files: Vec<(Text, Bytes)>,
 }
 
+impl Model for SureShelf {
+    ghost use Rattle.osb_base.specs.Shelves.{Files};
+
+    ghost Value = { Files };
+
+    ghost view = { λ s. s.files.items };
+}
+
 impl SureShelf {
     pub fn new(files: Vec<(Text, Bytes)>) -> Self
         requires { AreFiles files.items }
-        ensures { ⟦<SureShelf as Shelf>⟧.files result ≡ Some files.items }
+        ensures files { result ≡ files.items }
     {
         SureShelf { files }
     }
 }
 
 impl Shelf for SureShelf {
-    ghost files = { λ s. Some s.files.items };
+    ghost files = { λ s. Some s };
 
     ghost shelf_faults = { λ _. 0 };
 

@@ -49,7 +49,7 @@ impl MemSink {
         most: Option<usize>,
         fail: Vec<u64>,
     ) -> Result<Self, NoMemory>
-        ensures { IfOk result (λ sink. sink ≡ record { bytes = []; room = room; most = most; calls = no_calls fail.items }) }
+        ensures state { IfOk result (λ sink. sink ≡ record { bytes = []; room = room; most = most; calls = no_calls fail.items }) }
     {
         Ok(MemSink {
             taken: Vec::with_capacity(alloc, room)?,
@@ -60,7 +60,7 @@ impl MemSink {
     }
 
     pub fn taken(&self) -> &[u8]
-        ensures { result.now ≡ self.now.bytes }
+        ensures bytes { result.now ≡ self.now.bytes }
     {
         &self.taken
     }
@@ -117,7 +117,7 @@ pub struct SureSink;
 
 impl SureSink {
     pub fn new() -> Self
-        ensures { ⟦<SureSink as Sink>⟧.taken result ≡ None }
+        ensures silent { ⟦<SureSink as Sink>⟧.taken result ≡ None }
     {
         SureSink
     }

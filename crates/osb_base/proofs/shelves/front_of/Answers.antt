@@ -4,4 +4,4 @@ use Rattle.osb_base.proofs.shelves.front_of.Goals as goal
 
 pub returns-clause-front : goal.returns-clause-front
 returns-clause-front c =
-    c.new.ensures ∙ c.in_ok-front.ensures.items ∙ cut_of_front c.args.bytes.now c.min-end.result c.min-end.ensures
+    c.new.ensures.content ∙ c.in_ok-front.ensures.items ∙ cut_of_front c.args.bytes.now c.min-end.result c.min-end.ensures
