@@ -1,0 +1,3 @@
+pub mod Noop
+pub mod Error
+pub mod Mkdir

@@ -1,0 +1,43 @@
+-- The kinds of stages: their types by name, how their options are read, and what they do. A new kind adds one line to
+-- each definition.
+use Rattle.std.specs.Prelude.{ℕ, ◌==◌, Bool, List, codes, Result, Ok, Err, if◌then◌else◌}
+use Rattle.std.specs.Cmp.Lexicographic.{pointwise}
+use Rattle.serde_json.specs.Data.{Data}
+use Rattle.osb_tree.specs.Trees.{Listing}
+use Rattle.osb_tree.specs.declared.faults.OptionFault.{OptionFault}
+use Rattle.osb_tree.specs.declared.faults.Inputs.{Inputs}
+use Rattle.osb_stages.specs.Rules.{Effect}
+use Rattle.osb_files.specs.Noop.{noop_options, noop}
+use Rattle.osb_files.specs.Error.{error_options, error}
+use Rattle.osb_files.specs.Mkdir.{mkdir_options, mkdir}
+use Rattle.osb_recipe.specs.declared.kinds.StageKind.{StageKind}
+use Rattle.osb_recipe.specs.declared.kinds.StageKind.TheVariants.{Noop, Error, Mkdir}
+use Rattle.osb_recipe.specs.declared.kinds.KindFault.{KindFault}
+use Rattle.osb_recipe.specs.declared.kinds.KindFault.TheVariants.{UnknownStage, Options}
+
+abbrev pub type_text : StageKind → List ℕ
+type_text (Noop options) = codes "org.osbuild.noop"
+type_text (Error options) = codes "org.osbuild.error"
+type_text (Mkdir options) = codes "org.osbuild.mkdir"
+
+-- a kind with its options, or why they are refused
+abbrev pub with_options : {A : Type 0} → (A → StageKind) → Result A OptionFault → Result StageKind KindFault
+with_options kind (Ok options) = Ok (kind options)
+with_options kind (Err fault) = Err (Options fault)
+
+abbrev pub is_type : List ℕ → List ℕ → Bool
+is_type name stage = pointwise ◌==◌ stage name
+
+-- the kind of a stage, by the name of its type and its options
+abbrev pub kind_of : List ℕ → Data → Result StageKind KindFault
+kind_of stage options =
+    if is_type (codes "org.osbuild.noop") stage then with_options Noop (noop_options options)
+    else if is_type (codes "org.osbuild.error") stage then with_options Error (error_options options)
+    else if is_type (codes "org.osbuild.mkdir") stage then with_options Mkdir (mkdir_options options)
+    else Err UnknownStage
+
+-- what a stage does to a tree
+abbrev pub effect : StageKind → Inputs → Listing → Effect
+effect (Noop options) inputs listing = noop options listing
+effect (Error options) inputs listing = error options listing
+effect (Mkdir options) inputs listing = mkdir options listing
