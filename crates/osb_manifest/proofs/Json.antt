@@ -4,7 +4,7 @@ use Rattle.std.specs.Str.{IsUtf8, is_utf8}
 use Rattle.std.proofs.lemmas.Str.{IsUtf8-from_is_utf8, is_utf8-from_IsUtf8}
 use Rattle.serde_json.specs.Data.{Data}
 use Rattle.serde_json.specs.Read.{read}
-use Rattle.osb_manifest.specs.Forms.{json_of}
+use Rattle.osb_manifest.specs.Manifests.{json_of}
 
 pub json_read : (bytes : List ℕ) (value : Data) → IsUtf8 bytes → read bytes ≡ Some value → Some value ≡ json_of bytes
 json_read bytes value utf8 is = rw (is_utf8-from_IsUtf8 bytes utf8) (sym is)

@@ -1,3 +1,11 @@
-pub mod Items
+pub mod Depths
+pub mod Distinct
 pub mod Json
-pub mod Making
+pub mod Names
+pub mod NeededLaws
+pub mod Needs
+pub mod Nothing
+pub mod Order
+pub mod Rightness
+pub mod WellFormed
+pub mod Whole

@@ -1,3 +1,6 @@
-pub mod Forms
+pub mod Walks
+pub mod Seen
+pub mod Named
 pub mod Manifests
-pub mod Stages
+pub mod Right
+pub mod Needed

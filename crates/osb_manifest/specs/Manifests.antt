@@ -1,150 +1,106 @@
--- What a manifest is. So far one form is read: one pipeline, of stages that do nothing or make directories.
-use Rattle.std.specs.Prelude.{ℕ, ◌==◌, ◌&&◌, Bool, false, not, List, [], ◌∷◌, length, codes, nat_lt, nat_le, Option, Some, None, is_some, option_map, option_and_then, Result, Ok, Err, if◌then◌else◌}
+-- What a manifest is, from its bytes.
+use Rattle.std.specs.Prelude.{◌≡◌, ℕ, ◌<◌, ◌≤◌, ◌+◌, ◌==◌, Bool, List, [], ◌∷◌, codes, length, nat_lt, Option, Some, None, option_map, option_and_then, Result, Ok, Err, IfSome, if◌then◌else◌}
 use Rattle.std.specs.Result.{result_ok}
-use Rattle.std.specs.List.{list_all}
-use Rattle.std.specs.Cmp.Lexicographic.{pointwise}
-use Rattle.serde_json.specs.Data.{Data, Items, no_items, item, Members}
-use Rattle.serde_json.specs.Find.{as_str, as_array, as_object, get, get_item}
-use Rattle.serde_json.specs.Events.{items_len, members_len}
-use Rattle.osb_tree.specs.Paths.{Names, path_of}
-use Rattle.osb_manifest.specs.Forms.{json_of, is_pipeline_name}
-use Rattle.osb_manifest.specs.declared.first.Stage.{Stage}
-use Rattle.osb_manifest.specs.declared.first.Stage.TheVariants.{Noop, Mkdir}
+use Rattle.std.specs.List.{filter_map, IsDistinct, AllByRecursion}
+use Rattle.std.specs.Map.{keys_of, values_of}
+use Rattle.std.specs.declared.cmp.Ordering.{Ordering}
+use Rattle.std.specs.Cmp.Lexicographic.{pointwise, slice_cmp}
+use Rattle.std.specs.Ordering.{nat_cmp}
+use Rattle.std.specs.List.Sorted.{IsStrictlySortedBy}
+use Rattle.std.specs.Str.{is_utf8}
+use Rattle.serde_json.specs.Data.{Data, depth}
+use Rattle.serde_json.specs.Read.{read}
+use Rattle.osb_pyjson.specs.PyText.{py_data}
+use Rattle.osb_stages.specs.Readers.{IsObject}
+use Rattle.osb_recipe.specs.Kinds.{kind_of}
+use Rattle.osb_recipe.specs.declared.kinds.StageKind.{StageKind}
+use Rattle.osb_shape.specs.Values.{text_at, list_at}
+use Rattle.osb_shape.specs.Places.{place_text}
+use Rattle.osb_manifest.specs.Walks.{name_of, options_of, refusals_of}
 use Rattle.osb_manifest.specs.declared.manifests.Manifest.{Manifest}
+use Rattle.osb_manifest.specs.declared.manifests.Pipeline.{Pipeline}
+use Rattle.osb_manifest.specs.declared.manifests.Stage.{Stage}
+use Rattle.osb_manifest.specs.declared.manifests.Input.{Input}
+use Rattle.osb_manifest.specs.declared.manifests.Input.TheVariants.{Tree, Files}
 use Rattle.osb_manifest.specs.declared.manifests.Refusal.{Refusal}
-use Rattle.osb_manifest.specs.declared.manifests.Refusal.TheVariants.{TooLong, NotJson, NotYet}
+use Rattle.osb_manifest.specs.declared.manifests.Refusal.TheVariants.{TooLong, NotJson}
 
--- how many bytes a manifest may have
+-- ---- the manifest that a value stands for
+
+abbrev pub stage_with : List ℕ → StageKind → List ℕ → Stage
+stage_with text kind options = record { kind = kind; type_text = text; options_text = options; inputs = [] }
+
+-- a stage: its kind, the name of its type, and Python's text of its options
+abbrev pub made_stage : Data → Option Stage
+made_stage value =
+    option_and_then (λ text. option_and_then (λ kind. option_map (stage_with text kind) (py_data (options_of value))) (result_ok (kind_of text (options_of value)))) (text_at (codes "type") value)
+
+abbrev pub pipeline_with : List Stage → Pipeline
+pipeline_with stages = record { build = None; stages = stages }
+
+-- a pipeline, by its name
+abbrev pub made_pipeline : Data → Option (List ℕ × Pipeline)
+made_pipeline value = option_map (λ name. (name, pipeline_with (filter_map made_stage (list_at (codes "stages") value)))) (name_of value)
+
+abbrev pub made_manifest : Data → Manifest
+made_manifest value = record {
+  pipelines = filter_map made_pipeline (list_at (codes "pipelines") value);
+  items = record { inline = []; curl = [] };
+}
+
+-- ---- reading
+
+-- the value that bytes spell as JSON, which is a text in UTF-8
+abbrev pub json_of : List ℕ → Option Data
+json_of bytes = if is_utf8 bytes then read bytes else None
+
 abbrev pub is_too_long : List ℕ → Bool
 is_too_long bytes = nat_lt 16777216 (length bytes)
 
--- the place of the whole value
-abbrev pub top : List ℕ
-top = []
-
--- ---- values
-
--- an object with so many members
-abbrev pub has_members : ℕ → Data → Bool
-has_members count value = count_is (as_object value)
-  where
-    count_is : Option Members → Bool
-    count_is None = false
-    count_is (Some members) = members_len members == count
-
--- whether an object has a member
-abbrev pub has : List ℕ → Data → Bool
-has name value = is_some (get name value)
-
--- the text, and the list, that an object has as a member
-abbrev pub text_at : List ℕ → Data → Option (List ℕ)
-text_at name value = option_and_then as_str (get name value)
-
-abbrev pub list_at : List ℕ → Data → Option Items
-list_at name value = option_and_then as_array (get name value)
-
-abbrev pub is_text : List ℕ → Option (List ℕ) → Bool
-is_text text None = false
-is_text text (Some found) = pointwise ◌==◌ found text
-
--- the one item of a list that has one
-abbrev pub only_item : Items → Option Data
-only_item items = if items_len items == 1 then get_item 0 items else None
-
--- two values, where both are there
-abbrev pub both : {A B C : Type 0} → (A → B → C) → Option A → Option B → Option C
-both f first second = option_and_then (λ a. option_map (f a) second) first
-
--- ---- options of `mkdir`
-
--- a character that is printed as it is: space to `~`, but for the quote and the backslash
-abbrev pub is_plain : ℕ → Bool
-is_plain c = nat_le 32 c && nat_le c 126 && not (c == 34) && not (c == 92)
-
--- the path of a text of such characters
-abbrev pub plain_path : List ℕ → Option Names
-plain_path text = if list_all is_plain text then result_ok (path_of text) else None
-
--- an object with exactly `path`
-abbrev pub path_item : Data → Option Names
-path_item value = if has_members 1 value then option_and_then plain_path (text_at (codes "path") value) else None
-
-abbrev pub path_items : Items → Option (List Names)
-path_items no_items = Some []
-path_items (item value items) = both (λ path paths. path ∷ paths) (path_item value) (path_items items)
-
--- an object with exactly `paths`
-abbrev pub mkdir_paths : Data → Option (List Names)
-mkdir_paths options = if has_members 1 options then option_and_then path_items (list_at (codes "paths") options) else None
-
--- ---- stages
-
--- an object with exactly `type` and perhaps `options`, an object without members
-abbrev pub is_noop : Data → Bool
-is_noop value =
-    is_text (codes "org.osbuild.noop") (text_at (codes "type") value)
-    && (if has (codes "options") value then has_members 2 value && is_empty_object (get (codes "options") value) else has_members 1 value)
-  where
-    is_empty_object : Option Data → Bool
-    is_empty_object None = false
-    is_empty_object (Some options) = has_members 0 options
-
--- an object with exactly `type` and `options`
-abbrev pub mkdir_stage : Data → Option Stage
-mkdir_stage value =
-    if has_members 2 value && is_text (codes "org.osbuild.mkdir") (text_at (codes "type") value)
-    then option_map Mkdir (option_and_then mkdir_paths (get (codes "options") value))
-    else None
-
-abbrev pub stage_of : Data → Option Stage
-stage_of value = if is_noop value then Some Noop else mkdir_stage value
-
-abbrev pub stage_items : Items → Option (List Stage)
-stage_items no_items = Some []
-stage_items (item value items) = both (λ stage stages. stage ∷ stages) (stage_of value) (stage_items items)
-
--- at most 1,024 of them
-abbrev pub stages_of : Items → Option (List Stage)
-stages_of items = if nat_le (items_len items) 1024 then stage_items items else None
-
--- ---- pipelines and manifests
-
-abbrev pub pipeline_name_of : List ℕ → Option (List ℕ)
-pipeline_name_of text = if is_pipeline_name text then Some text else None
-
--- the stages of a pipeline, whose object has exactly `name` and perhaps `stages`
-abbrev pub pipeline_stages : Data → Option (List Stage)
-pipeline_stages value =
-    if has (codes "stages") value
-    then (if has_members 2 value then option_and_then stages_of (list_at (codes "stages") value) else None)
-    else (if has_members 1 value then Some [] else None)
-
--- the manifest of one pipeline
-abbrev pub single : List ℕ → List Stage → Manifest
-single name stages = record { pipelines = (name, record { stages = stages }) ∷ [] }
-
-abbrev pub manifest_of_pipeline : Data → Option Manifest
-manifest_of_pipeline value = both single (option_and_then pipeline_name_of (text_at (codes "name") value)) (pipeline_stages value)
-
--- the list of pipelines of an object with exactly `version`, which is the text `2`, and `pipelines`
-abbrev pub pipelines_of : Data → Option Items
-pipelines_of value =
-    if has_members 2 value && is_text (codes "2") (text_at (codes "version") value)
-    then list_at (codes "pipelines") value
-    else None
-
--- the manifest that a value is
-abbrev pub manifest_of_value : Data → Option Manifest
-manifest_of_value value = option_and_then manifest_of_pipeline (option_and_then only_item (pipelines_of value))
-
-abbrev pub form_read : Option Manifest → Result Manifest Refusal
-form_read None = Err (NotYet top)
-form_read (Some manifest) = Ok manifest
+-- the first refusal, or else the manifest
+abbrev pub unless_refused : List Refusal → Manifest → Result Manifest Refusal
+unless_refused [] manifest = Ok manifest
+unless_refused (refusal ∷ refusals) manifest = Err refusal
 
 abbrev pub value_read : Option Data → Result Manifest Refusal
-value_read None = Err (NotJson top)
-value_read (Some value) = form_read (manifest_of_value value)
+value_read None = Err (NotJson (place_text []))
+value_read (Some value) = unless_refused (refusals_of value) (made_manifest value)
 
--- the manifest that bytes are, or why they are none: the first cause that applies, and its place
+-- the manifest that bytes are, or why they are none: the least number that applies anywhere, at its first place
 abbrev pub manifest_of : List ℕ → Result Manifest Refusal
-manifest_of bytes = if is_too_long bytes then Err (TooLong top) else value_read (json_of bytes)
+manifest_of bytes = if is_too_long bytes then Err (TooLong (place_text [])) else value_read (json_of bytes)
+
+-- ---- well-formed manifests
+
+abbrev pub name_cmp : List ℕ → List ℕ → Ordering
+name_cmp = slice_cmp nat_cmp
+
+-- what a stage of the pipeline at a place may have as an input: the tree of a pipeline before it, or files by rising
+-- digest
+abbrev pub IsInput : ℕ → Input → Type 0
+IsInput i (Tree place options) = place < i
+IsInput i (Files files) = IsStrictlySortedBy name_cmp (keys_of files)
+
+-- a stage of the pipeline at a place: its options text is that of options from which its kind is read, and its inputs
+-- stand by rising name
+pub record IsStage (i : ℕ) (stage : Stage) : Type 0 where
+  pub options : Data
+  pub object : IsObject options
+  pub shallow : depth options ≤ 127
+  pub text : py_data options ≡ Some stage.options_text
+  pub kind : kind_of stage.type_text options ≡ Ok stage.kind
+  pub named : IsStrictlySortedBy name_cmp (keys_of stage.inputs)
+  pub inputs : AllByRecursion (IsInput i) (values_of stage.inputs)
+
+pub record IsPipeline (i : ℕ) (pipeline : Pipeline) : Type 0 where
+  pub build : IfSome pipeline.build (λ place. place < i)
+  pub stages : AllByRecursion (IsStage i) pipeline.stages
+
+abbrev pub ArePipelines : ℕ → List Pipeline → Type 0
+ArePipelines i [] = Unit {0}
+ArePipelines i (pipeline ∷ pipelines) = IsPipeline i pipeline × ArePipelines (i + 1) pipelines
+
+pub record IsWellFormed (manifest : Manifest) : Type 0 where
+  pub named : IsDistinct (pointwise ◌==◌) (keys_of manifest.pipelines)
+  pub pipelines : ArePipelines 0 (values_of manifest.pipelines)
+  pub items : IsDistinct (pointwise ◌==◌) (keys_of manifest.items.inline)

@@ -1,13 +1,19 @@
 //! Manifests, from their bytes.
 #![tactic(auto)]
 
-pub mod first;
-mod forms;
+mod conditions;
+mod exports;
+pub mod laws;
+mod making;
 mod manifests;
+mod objects;
+mod pipelines;
 mod reading;
 mod stages;
-mod values;
+mod walks;
 
-pub use forms::is_pipeline_name;
-pub use manifests::{Manifest, Pipeline, Refusal};
+pub use exports::{NoSuchExport, needed};
+pub use manifests::{Input, Manifest, Pipeline, Refusal, Stage};
+pub use osb_shape::is_pipeline_name;
+pub use pipelines::Pipelines;
 pub use reading::read_manifest;

@@ -1,0 +1,148 @@
+-- Where no condition applies, pipelines and stages are right.
+use Rattle.std.proofs.Common.{◌≡◌, ℕ, ◌+◌, Bool, true, false, true≢false, IsSome, not, ◌&&◌, cond, if◌then◌else◌, List, [], ◌∷◌, ◌++◌, codes, map, filter, Option, Some, None, is_some, option_and_then, refl, sym, ◌∙◌}
+use Rattle.std.specs.List.{AllByRecursion, flat_map}
+use Rattle.std.proofs.lemmas.List.Concat.{flat_map-append}
+use Rattle.serde_json.specs.Data.{Data, null, boolean, number, string, array, object, Items, no_items, item}
+use Rattle.serde_json.specs.Find.{get, as_str}
+use Rattle.osb_shape.specs.Forms.{is_pipeline_name}
+use Rattle.osb_shape.specs.Values.{is_object, there_is, list_of, list_in, list_at, text_at, has_members_at}
+use Rattle.osb_shape.specs.Numbers.{bad_numbers}
+use Rattle.osb_shape.specs.Places.{place_text, pipeline_place, stage_place}
+use Rattle.osb_shape.specs.Shapes.{Row, Shape, may_have, must_have, top_shape, pipeline_shape, stage_shape, are_objects, is_broken_at, is_broken, broken_names, offending}
+use Rattle.osb_manifest.specs.Walks.{options_of, stage_kind, Object, at_top, at_pipeline, at_stage, at_later_stage, is_later_stage, stage_objects, pipeline_objects, in_order, objects, is_unknown, faults_of, applies, everywhere, all_conditions, refusals_of}
+use Rattle.osb_manifest.specs.Right.{IsRightStage, IsRightPipeline}
+use Rattle.osb_shape.specs.declared.shapes.Form.TheVariants as forms
+use Rattle.osb_manifest.specs.declared.manifests.Refusal.TheVariants as refusals
+use Rattle.osb_manifest.specs.declared.conditions.Condition.{Condition}
+use Rattle.osb_manifest.specs.declared.conditions.Condition.TheVariants as conditions
+use Rattle.osb_manifest.proofs.Nothing.{nothing_left, nothing_right, none-from_map, none_each, not-from_when}
+
+false-from_not : (b : Bool) → not b ≡ false → b ≡ true
+false-from_not true e = refl
+false-from_not false e = absurd (true≢false e)
+
+none_kept : {A B : Type 0} (f : A → B) (kept : Bool) (x : A) (xs : List A) → map f (cond kept (x ∷ xs) xs) ≡ [] → (kept ≡ false) × (map f xs ≡ [])
+none_kept f true x xs e = cc
+none_kept f false x xs e = (refl, e)
+
+none_broken : (value : Data) (rows : List Row) → broken_names value rows ≡ [] → AllByRecursion (λ row. is_broken value row ≡ false) rows
+none_broken value [] e = tt
+none_broken value (row ∷ rows) e =
+    let h = none_kept (λ (r : Row). r.name) (is_broken value row) row (filter (is_broken value) rows) e in
+    (h.0, none_broken value rows h.1)
+
+-- ---- shapes
+
+rows_hold : (shape : Shape) (value : Data) → is_object value ≡ true → offending shape value ≡ [] → AllByRecursion (λ row. is_broken value row ≡ false) shape.rows
+rows_hold shape null h e = absurd (true≢false (sym h))
+rows_hold shape (boolean b) h e = absurd (true≢false (sym h))
+rows_hold shape (number n) h e = absurd (true≢false (sym h))
+rows_hold shape (string s) h e = absurd (true≢false (sym h))
+rows_hold shape (array items) h e = absurd (true≢false (sym h))
+rows_hold shape (object fields) h e = none_broken (object fields) shape.rows (nothing_left _ _ e)
+
+text_in : (name : List ℕ) (found : Option Data) → is_broken_at (must_have name forms.Text) found ≡ false → IsSome (option_and_then as_str found)
+text_in name None e = absurd (true≢false e)
+text_in name (Some value) e = false-from_not (is_some (as_str value)) e
+
+name_in : (name : List ℕ) (found : Option Data) → is_broken_at (must_have name forms.PipelineName) found ≡ false → there_is is_pipeline_name (option_and_then as_str found) ≡ true
+name_in name None e = absurd (true≢false e)
+name_in name (Some value) e = false-from_not (there_is is_pipeline_name (as_str value)) e
+
+abbrev AreObjects : List Data → Type 0
+AreObjects values = AllByRecursion (λ value. is_object value ≡ true) values
+
+both : (a b : Bool) → (a && b) ≡ true → (a ≡ true) × (b ≡ true)
+both true b e = (refl, e)
+both false b e = absurd (true≢false (sym e))
+
+objects_of : (items : Items) → are_objects items ≡ true → AreObjects (list_of items)
+objects_of no_items e = tt
+objects_of (item value items) e = let h = both (is_object value) (are_objects items) e in (h.0, objects_of items h.1)
+
+objects_in : (name : List ℕ) (found : Option Data) → is_broken_at (may_have name forms.ListOfObjects) found ≡ false → AreObjects (list_in found)
+objects_in name None e = tt
+objects_in name (Some null) e = tt
+objects_in name (Some (boolean b)) e = tt
+objects_in name (Some (number n)) e = tt
+objects_in name (Some (string s)) e = tt
+objects_in name (Some (array items)) e = objects_of items (false-from_not (are_objects items) e)
+objects_in name (Some (object fields)) e = tt
+
+-- ---- the walk
+
+module _ (whole : Data) where
+  abbrev IsClean : List Object → Type 0
+  IsClean here = (condition : Condition) → flat_map (applies whole condition) here ≡ []
+
+  clean_first : (here : Object) (others : List Object) → IsClean (here ∷ others) → (condition : Condition) → applies whole condition here ≡ []
+  clean_first here others h condition = nothing_left _ _ (h condition)
+
+  clean_rest : (here : Object) (others : List Object) → IsClean (here ∷ others) → IsClean others
+  clean_rest here others h condition = nothing_right (applies whole condition here) _ (h condition)
+
+  clean_left : (xs ys : List Object) → IsClean (xs ++ ys) → IsClean xs
+  clean_left xs ys h condition = nothing_left _ _ (sym (flat_map-append (applies whole condition) xs ys) ∙ h condition)
+
+  clean_right : (xs ys : List Object) → IsClean (xs ++ ys) → IsClean ys
+  clean_right xs ys h condition = nothing_right (flat_map (applies whole condition) xs) _ (sym (flat_map-append (applies whole condition) xs ys) ∙ h condition)
+
+  -- a stage that is read
+  stage_read : (later : Bool) (i j : ℕ) (stage : Data) → IsClean ((if later then at_later_stage i j else at_stage i j stage) ∷ []) → (later ≡ false) × ((condition : Condition) → applies whole condition (at_stage i j stage) ≡ [])
+  stage_read true i j stage h = let some = clean_first (at_later_stage i j) [] h conditions.NotYetRead in cc
+  stage_read false i j stage h = (refl, clean_first (at_stage i j stage) [] h)
+
+  right_stage : (i j : ℕ) (stage : Data) → is_object stage ≡ true → IsClean (stage_objects i j stage) → IsRightStage stage
+  right_stage i j stage is h =
+      let r = stage_read (is_later_stage stage) i j stage h in
+      let rows = rows_hold stage_shape stage is (none-from_map (refusals.Member (place_text (stage_place i j))) (offending stage_shape stage) (r.1 conditions.WrongMember)) in
+      record {
+        typed = text_in (codes "type") (get (codes "type") stage) rows.0;
+        read_now = r.0;
+        whole = none-from_map _ (bad_numbers (options_of stage)) (r.1 conditions.BadNumber);
+        known = not-from_when (is_unknown (stage_kind stage)) _ (r.1 conditions.UnknownStage);
+        taken = none-from_map _ (faults_of (stage_kind stage)) (r.1 conditions.WrongOptions);
+        alone = not-from_when (has_members_at (codes "inputs") stage) _ (r.1 conditions.NotYetRead);
+      }
+
+  right_stages : (i j : ℕ) (stages : List Data) → AreObjects stages → IsClean (in_order (stage_objects i) j stages) → AllByRecursion IsRightStage stages
+  right_stages i j [] is h = tt
+  right_stages i j (stage ∷ stages) is h =
+      (right_stage i j stage is.0 (clean_left (stage_objects i j stage) (in_order (stage_objects i) (j + 1) stages) h), right_stages i (j + 1) stages is.1 (clean_right (stage_objects i j stage) (in_order (stage_objects i) (j + 1) stages) h))
+
+  right_pipeline : (i : ℕ) (pipeline : Data) → is_object pipeline ≡ true → IsClean (pipeline_objects i pipeline) → IsRightPipeline pipeline
+  right_pipeline i pipeline is h =
+      let here = clean_first (at_pipeline i pipeline) (in_order (stage_objects i) 0 (list_at (codes "stages") pipeline)) h in
+      let rows = rows_hold pipeline_shape pipeline is (none-from_map (refusals.Member (place_text (pipeline_place i))) (offending pipeline_shape pipeline) (here conditions.WrongMember)) in
+      record {
+        named = name_in (codes "name") (get (codes "name") pipeline) rows.0;
+        alone = not-from_when (is_some (text_at (codes "build") pipeline)) _ (here conditions.NotYetRead);
+        stages = right_stages i 0 (list_at (codes "stages") pipeline) (objects_in (codes "stages") (get (codes "stages") pipeline) rows.1.1.1.0) (clean_rest (at_pipeline i pipeline) (in_order (stage_objects i) 0 (list_at (codes "stages") pipeline)) h);
+      }
+
+  right_pipelines : (i : ℕ) (pipelines : List Data) → AreObjects pipelines → IsClean (in_order pipeline_objects i pipelines) → AllByRecursion IsRightPipeline pipelines
+  right_pipelines i [] is h = tt
+  right_pipelines i (pipeline ∷ pipelines) is h =
+      (right_pipeline i pipeline is.0 (clean_left (pipeline_objects i pipeline) (in_order pipeline_objects (i + 1) pipelines) h), right_pipelines (i + 1) pipelines is.1 (clean_right (pipeline_objects i pipeline) (in_order pipeline_objects (i + 1) pipelines) h))
+
+  -- where nothing is wrong, no condition applies to an object
+  clean : refusals_of whole ≡ [] → IsClean (objects whole)
+  unfolding everywhere
+  clean e conditions.NoObject = (none_each (everywhere whole) all_conditions e).0
+  clean e conditions.OtherVersion = (none_each (everywhere whole) all_conditions e).1.0
+  clean e conditions.TooMany = (none_each (everywhere whole) all_conditions e).1.1.0
+  clean e conditions.WrongMember = (none_each (everywhere whole) all_conditions e).1.1.1.0
+  clean e conditions.BadNumber = (none_each (everywhere whole) all_conditions e).1.1.1.1.0
+  clean e conditions.Duplicate = (none_each (everywhere whole) all_conditions e).1.1.1.1.1.0
+  clean e conditions.UnknownStage = (none_each (everywhere whole) all_conditions e).1.1.1.1.1.1.0
+  clean e conditions.WrongOptions = (none_each (everywhere whole) all_conditions e).1.1.1.1.1.1.1.0
+  clean e conditions.NotYetRead = (none_each (everywhere whole) all_conditions e).1.1.1.1.1.1.1.1.0
+
+  pub right : refusals_of whole ≡ [] → AllByRecursion IsRightPipeline (list_at (codes "pipelines") whole)
+  right e =
+      let h = clean e in
+      let here = clean_first (at_top whole) (in_order pipeline_objects 0 (list_at (codes "pipelines") whole)) h in
+      let is : is_object whole ≡ true = false-from_not (is_object whole) (not-from_when (not (is_object whole)) (refusals.NotObject (place_text [])) (here conditions.NoObject)) in
+      let rows = rows_hold top_shape whole is (none-from_map (refusals.Member (place_text [])) (offending top_shape whole) (here conditions.WrongMember)) in
+      right_pipelines 0 (list_at (codes "pipelines") whole) (objects_in (codes "pipelines") (get (codes "pipelines") whole) rows.0)
+      (clean_rest (at_top whole) (in_order pipeline_objects 0 (list_at (codes "pipelines") whole)) h)

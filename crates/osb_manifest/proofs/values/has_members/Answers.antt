@@ -1,7 +1,0 @@
-use Rattle.std.proofs.Common.{ap}
-use Rattle.std.specs.Bool.{◌==◌}
-use Rattle.serde_json.proofs.Views.{members_len-members_view}
-use Rattle.osb_manifest.proofs.values.has_members.Goals as goal
-
-pub returns-in-Some : goal.returns-in-Some
-returns-in-Some c = rw (← c.in-Some.ensures, members_len-members_view) (ap (λ n. n == c.args.count) c.len.ensures.len)

@@ -1,0 +1,7 @@
+pub mod Firsts
+pub mod Forms
+pub mod Values
+pub mod Places
+pub mod Shapes
+pub mod Numbers
+pub mod Tables
