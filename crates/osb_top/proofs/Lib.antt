@@ -1,4 +1,5 @@
 pub mod Builds
-pub mod Exporting
-pub mod Walks
+pub mod ManyExports
+pub mod Trees
+pub mod ExportNames
 pub mod Writing

@@ -1,55 +1,65 @@
--- The export of a tree into a folder: one operation for each path in path order, and at the end the list.
-use Rattle.std.specs.Prelude.{ℕ, ◌+◌, ◌/◌, ◌%◌, ◌<◌, ◌≡◌, List, [], ◌∷◌, ◌++◌, length, map, codes, Option, option_map}
-use Rattle.std.specs.List.{flat_map}
-use Rattle.std.specs.Fmt.{decimal}
-use Rattle.osb_pyjson.specs.PyText.{py_quoted}
-use Rattle.osb_tree.specs.Paths.{Names, path_text}
-use Rattle.osb_tree.specs.Trees.{Listing}
-use Rattle.osb_tree.specs.declared.nodes.Node.{Node}
-use Rattle.osb_tree.specs.declared.nodes.Node.TheVariants as nodes
+-- The exports of a build, one after another.
+use Rattle.std.specs.Prelude.{ℕ, ◌+◌, ◌-◌, ◌^◌, ◌≤◌, ◌≡◌, min, Bool, true, false, List, [], ◌∷◌, ◌++◌, codes, count_by, Option}
+use Rattle.osb_base.specs.Faults.{Rose}
+use Rattle.osb_tree.specs.Trees.{tree_size}
 use Rattle.osb_base.specs.declared.exporters.Op.{Op}
-use Rattle.osb_base.specs.declared.exporters.Op.TheVariants as ops
+use Rattle.osb_export.specs.Exports.{export_list, Appends, IsProperPrefix}
+use Rattle.osb_top.specs.declared.answers.Export.{Export}
+use Rattle.osb_top.specs.declared.answers.ExportAnswer.{ExportAnswer}
+use Rattle.osb_top.specs.declared.answers.ExportAnswer.TheVariants.{Exported, Fault, NoMemory}
 
--- where a path of the tree is exported: under `tree` in the folder
-abbrev pub place_of : List ℕ → Names → List ℕ
-place_of folder path = folder ++ (codes "/tree" ++ flat_map (λ name. 47 ∷ name) path)
+-- where a pipeline of the build is exported: a folder of the build's place, and in it one of the pipeline's name
+abbrev pub folder_of : List ℕ → List ℕ
+folder_of name = codes "1/" ++ name
 
-abbrev pub op_of : List ℕ → Names × Node → Op
-op_of folder (path, nodes.Dir mode uid gid) = ops.Dir (place_of folder path) mode uid gid
-op_of folder (path, nodes.File mode uid gid bytes) = ops.File (place_of folder path) mode uid gid bytes
-op_of folder (path, nodes.Link uid gid target) = ops.Link (place_of folder path) uid gid target
+abbrev pub ops_of : Export → List Op
+ops_of export = export_list (folder_of export.name) export.tree
 
--- a mode, in four octal digits
-abbrev pub octal : ℕ → List ℕ
-octal mode = decimal (mode / 512 % 8) ++ (decimal (mode / 64 % 8) ++ (decimal (mode / 8 % 8) ++ decimal (mode % 8)))
+-- what was done of an export, by its answer: all of it, or a proper front
+abbrev pub IsDone : Export → ExportAnswer → List Op → Type 0
+IsDone export (Exported size) part = (part ≡ ops_of export) × (size ≡ tree_size export.tree)
+IsDone export Fault part = IsProperPrefix part (ops_of export)
+IsDone export NoMemory part = IsProperPrefix part (ops_of export)
 
--- the line of a path: what stands there, its mode, its owners, the path, and a file's length or a link's target
-abbrev pub list_line : Names × Node → List ℕ
-list_line (path, nodes.Dir mode uid gid) =
-    codes "d " ++ (octal mode ++ (codes " " ++ (decimal uid ++ (codes " " ++ (decimal gid ++ (codes " " ++ (py_quoted (path_text path) ++ codes "\n")))))))
-list_line (path, nodes.File mode uid gid bytes) =
-    codes "f " ++ (octal mode ++ (codes " " ++ (decimal uid ++ (codes " " ++ (decimal gid ++ (codes " " ++ (py_quoted (path_text path) ++ (codes " " ++ (decimal (length bytes) ++ codes "\n")))))))))
-list_line (path, nodes.Link uid gid target) =
-    codes "l 0777 " ++ (decimal uid ++ (codes " " ++ (decimal gid ++ (codes " " ++ (py_quoted (path_text path) ++ (codes " " ++ (py_quoted target ++ codes "\n")))))))
+-- the operations of several exports, one export after another
+pub data InOrder : List Export → List ExportAnswer → List Op → Type 0 where
+  no_export : InOrder [] [] []
+  one_more : (export : Export) (answer : ExportAnswer) (part : List Op) (exports : List Export) (answers : List ExportAnswer) (ops : List Op) → IsDone export answer part → InOrder exports answers ops → InOrder (export ∷ exports) (answer ∷ answers) (part ++ ops)
 
-abbrev pub list_text : Listing → List ℕ
-list_text listing = flat_map list_line listing
+abbrev pub is_fault : ExportAnswer → Bool
+is_fault (Exported size) = false
+is_fault Fault = true
+is_fault NoMemory = false
 
-abbrev pub export_list : List ℕ → Listing → List Op
-export_list folder listing = map (op_of folder) listing ++ ops.Finish folder (list_text listing) ∷ []
+-- a count of faults, before the run and after it
+pub record Count : Type 0 where
+  pub before : ℕ
+  pub now : ℕ
 
--- where the exporter tells, these operations were done, and no others
-abbrev pub Appends : Option (List Op) → Option (List Op) → List Op → Type 0
-Appends before now done = now ≡ option_map (λ old. old ++ done) before
+abbrev pub HasRisen : Count → Type 0
+HasRisen count = Rose count.before count.now
 
--- some first operations of an export, and not all of them
-pub record IsProperPrefix (part whole : List Op) : Type 0 where
-  pub rest : List Op
-  pub together : part ++ rest ≡ whole
-  pub some_left : 0 < length rest
+-- a count that rose by a number, or stands at its last value
+abbrev pub RoseBy : ℕ → Count → Type 0
+RoseBy n count = min (count.before + n) (2 ^ 64 - 1) ≤ count.now
 
--- an export ended before its last operation
-pub record StopsExport (before now : Option (List Op)) (whole : List Op) : Type 0 where
+-- the operations of the exporter, where it tells
+pub record ExporterSeen : Type 0 where
+  pub before : Option (List Op)
+  pub now : Option (List Op)
+  pub faults : Count
+
+-- the exports of a build with their answers: where the exporter tells, these are its operations, and its count rose by
+-- the number of export faults
+pub record AreExported (exporter : ExporterSeen) (exports : List Export) (answers : List ExportAnswer) : Type 0 where
+  pub ops : List Op
+  pub in_order : InOrder exports answers ops
+  pub done : Appends exporter.before exporter.now ops
+  pub faults : RoseBy (count_by is_fault answers) exporter.faults
+
+-- one export, by what the exporter did meanwhile
+pub record IsOneExport (exporter : ExporterSeen) (export : Export) (answer : ExportAnswer) : Type 0 where
   pub part : List Op
-  pub proper : IsProperPrefix part whole
-  pub done : Appends before now part
+  pub done : Appends exporter.before exporter.now part
+  pub is : IsDone export answer part
+  pub faults : RoseBy (count_by is_fault (answer ∷ [])) exporter.faults

@@ -2,7 +2,9 @@
 use Rattle.std.specs.Prelude.{ℕ, List, ◌++◌, codes}
 use Rattle.std.specs.Fmt.{decimal}
 use Rattle.osb_tree.specs.Paths.{path_text}
-use Rattle.osb_tree.specs.Trees.{tree_size}
+use Rattle.std.specs.List.{flat_map, zip}
+use Rattle.osb_tree.specs.declared.faults.OptionFault.{OptionFault}
+use Rattle.osb_tree.specs.declared.faults.OptionFault.TheVariants as options
 use Rattle.osb_tree.specs.declared.faults.StageFault.{StageFault}
 use Rattle.osb_tree.specs.declared.faults.StageFault.TheVariants as faults
 use Rattle.osb_manifest.specs.declared.manifests.Refusal.{Refusal}
@@ -10,17 +12,37 @@ use Rattle.osb_manifest.specs.declared.manifests.Refusal.TheVariants as refusals
 use Rattle.osb_pyjson.specs.PyText.{py_quoted}
 use Rattle.osb_top.specs.declared.answers.Unbuilt.{Unbuilt}
 use Rattle.osb_top.specs.declared.answers.Unbuilt.TheVariants.{Absent, ReadFault, Refused, NoSuchExport, Failed, NoMemory}
+use Rattle.osb_top.specs.declared.answers.Export.{Export}
+use Rattle.osb_top.specs.declared.answers.ExportAnswer.{ExportAnswer}
+use Rattle.osb_top.specs.declared.answers.ExportAnswer.TheVariants as export_answers
 use Rattle.osb_top.specs.declared.answers.Answer.{Answer}
-use Rattle.osb_top.specs.declared.answers.Answer.TheVariants as answers
+use Rattle.osb_top.specs.declared.answers.Answer.TheVariants as builds
 
 -- a number, and a text as Python prints it
 abbrev pub numbered : ℕ → List ℕ → List ℕ
 numbered number text = decimal number ++ (codes " " ++ py_quoted text)
 
--- the number of a refusal, and its place
+-- the number of an option's fault, and the member's name
+abbrev pub option_words : OptionFault → List ℕ
+option_words (options.Missing name) = numbered 1 name
+option_words (options.WrongKind name) = numbered 2 name
+option_words (options.OutOfRange name) = numbered 3 name
+option_words (options.BadPath name) = numbered 4 name
+option_words (options.UnknownMember name) = numbered 5 name
+option_words options.NoMemory = codes "want of memory"
+
+-- the number of a refusal, and its place; of a member its name too, and of options what is wrong with them
 abbrev pub refusal_words : Refusal → List ℕ
 refusal_words (refusals.TooLong place) = numbered 1 place
 refusal_words (refusals.NotJson place) = numbered 2 place
+refusal_words (refusals.NotObject place) = numbered 3 place
+refusal_words (refusals.Version place) = numbered 4 place
+refusal_words (refusals.TooMany place) = numbered 5 place
+refusal_words (refusals.Member place name) = numbered 6 place ++ (codes " " ++ py_quoted name)
+refusal_words (refusals.BadNumber place) = numbered 7 place
+refusal_words (refusals.DuplicatePipeline place) = numbered 8 place
+refusal_words (refusals.UnknownStage place) = numbered 10 place
+refusal_words (refusals.Options place fault) = numbered 15 place ++ (codes " " ++ option_words fault)
 refusal_words (refusals.NotYet place) = numbered 16 place
 refusal_words refusals.NoMemory = codes "want of memory"
 
@@ -48,13 +70,20 @@ unbuilt_words (NoSuchExport name) = codes "no such export " ++ py_quoted name
 unbuilt_words (Failed pipeline stage fault) = codes "failed " ++ (pipeline ++ (codes " " ++ (decimal stage ++ (codes " " ++ fault_words fault))))
 unbuilt_words NoMemory = codes "want of memory"
 
--- what a line says behind the build's place
-abbrev pub answer_words : List ℕ → Answer → List ℕ
-answer_words export (answers.Unbuilt unbuilt) = unbuilt_words unbuilt
-answer_words export (answers.Exported tree) = export ++ (codes " exported " ++ decimal (tree_size tree))
-answer_words export (answers.ExportFault tree) = export ++ codes " export fault"
-answer_words export (answers.ExportNoMemory tree) = export ++ codes " want of memory"
+-- a line of a build begins with its place among the manifests, from 1
+abbrev pub line_of : ℕ → List ℕ → List ℕ
+line_of place words = decimal place ++ (codes " " ++ (words ++ codes "\n"))
 
--- the line of a build: its place among the manifests, from 1, and what it was answered
-abbrev pub answer_line : ℕ → List ℕ → Answer → List ℕ
-answer_line place export answer = decimal place ++ (codes " " ++ (answer_words export answer ++ codes "\n"))
+abbrev pub export_words : List ℕ → ExportAnswer → List ℕ
+export_words name (export_answers.Exported size) = name ++ (codes " exported " ++ decimal size)
+export_words name export_answers.Fault = name ++ codes " export fault"
+export_words name export_answers.NoMemory = name ++ codes " want of memory"
+
+-- a line for each export
+abbrev pub export_lines : ℕ → List Export → List ExportAnswer → List ℕ
+export_lines place exports answers = flat_map (λ pair. line_of place (export_words pair.0.name pair.1)) (zip exports answers)
+
+-- the lines of a build: one for each export, or one that says why there are no trees
+abbrev pub answer_lines : ℕ → Answer → List ℕ
+answer_lines place (builds.Unbuilt unbuilt) = line_of place (unbuilt_words unbuilt)
+answer_lines place (builds.Exports exports answers) = export_lines place exports answers

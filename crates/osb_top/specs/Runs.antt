@@ -1,50 +1,52 @@
 -- What a whole run does, as it is seen from outside.
-use Rattle.std.specs.Prelude.{◌≡◌, ℕ, ◌⊎◌, List, [], ◌∷◌, ◌++◌, codes, Option, Some, None, option_map, IfSome, Result, Ok, Err, if◌then◌else◌}
-use Rattle.osb_tree.specs.Trees.{Listing}
-use Rattle.osb_base.specs.Faults.{Rose}
+use Rattle.std.specs.Prelude.{◌≡◌, ◌==◌, Bool, true, false, ℕ, ◌⊎◌, List, [], ◌∷◌, ◌++◌, codes, Option, Some, None, option_map, IfSome, Result, Ok, Err, if◌then◌else◌}
+use Rattle.std.specs.List.{list_all, slice_split}
 use Rattle.osb_base.specs.Shelves.{Files, file_of}
-use Rattle.osb_base.specs.declared.exporters.Op.{Op}
-use Rattle.osb_manifest.specs.Forms.{is_pipeline_name}
-use Rattle.osb_top.specs.Exports.{export_list, Appends, StopsExport}
-use Rattle.osb_top.specs.Answers.{tree_due}
-use Rattle.osb_top.specs.Lines.{answer_line}
+use Rattle.osb_shape.specs.Forms.{is_pipeline_name}
+use Rattle.osb_manifest.specs.Needed.{is_among}
+use Rattle.osb_top.specs.Exports.{ExporterSeen, Count, HasRisen, AreExported}
+use Rattle.osb_top.specs.Answers.{exports_due}
+use Rattle.osb_top.specs.Lines.{answer_lines}
+use Rattle.osb_top.specs.declared.words.Request.{Request}
+use Rattle.osb_top.specs.declared.answers.Export.{Export}
+use Rattle.osb_top.specs.declared.answers.ExportAnswer.{ExportAnswer}
+use Rattle.osb_top.specs.declared.answers.ExportAnswer.TheVariants.{Exported, Fault, NoMemory as NoMemoryLeft}
 use Rattle.osb_top.specs.declared.answers.Unbuilt.{Unbuilt}
 use Rattle.osb_top.specs.declared.answers.Unbuilt.TheVariants.{Absent, ReadFault, Refused, NoSuchExport, Failed, NoMemory}
 use Rattle.osb_top.specs.declared.answers.Answer.{Answer}
-use Rattle.osb_top.specs.declared.answers.Answer.TheVariants as answers
+use Rattle.osb_top.specs.declared.answers.Answer.TheVariants as builds
 
 -- ---- what is asked for
 
-pub record Request : Type 0 where
-  pub manifest : List ℕ
-  pub export : List ℕ
+-- a name, added where it isn't among some yet
+abbrev pub one_new : List (List ℕ) → List ℕ → List (List ℕ)
+one_new names name = if is_among names name then names else names ++ name ∷ []
 
--- two words are a request: a manifest's name, and the name of a pipeline to export
+-- names, with some more that are not among them yet
+abbrev pub with_new : List (List ℕ) → List (List ℕ) → List (List ℕ)
+with_new names [] = names
+with_new names (more ∷ others) = with_new (one_new names more) others
+
+-- where all parts are names: of equal ones the first stands
+abbrev pub names_among : List (List ℕ) → Option (List (List ℕ))
+names_among parts = if list_all is_pipeline_name parts then Some (with_new [] parts) else None
+
+-- the pipeline names of a list divided by `,`
+abbrev pub exports_named : List ℕ → Option (List (List ℕ))
+exports_named text = names_among (slice_split (λ b. b == 44) text)
+
+-- two words are a request: a manifest's name, and the names of pipelines to export
 abbrev pub request_of : List (List ℕ) → Option Request
 request_of [] = None
 request_of (manifest ∷ []) = None
-request_of (manifest ∷ export ∷ []) = if is_pipeline_name export then Some (record { manifest = manifest; export = export }) else None
-request_of (manifest ∷ export ∷ word ∷ words) = None
+request_of (manifest ∷ exports ∷ []) = option_map (λ names. record { manifest = manifest; exports = names }) (exports_named exports)
+request_of (manifest ∷ exports ∷ word ∷ words) = None
 
 -- ---- what a run is seen by
-
--- a count of faults, before the run and after it
-pub record Count : Type 0 where
-  pub before : ℕ
-  pub now : ℕ
-
-abbrev pub HasRisen : Count → Type 0
-HasRisen count = Rose count.before count.now
 
 -- what the shelf holds, where it tells
 pub record ShelfSeen : Type 0 where
   pub files : Option Files
-  pub faults : Count
-
--- the operations of the exporter, where it tells
-pub record ExporterSeen : Type 0 where
-  pub before : Option (List Op)
-  pub now : Option (List Op)
   pub faults : Count
 
 -- the bytes of the sink, where it tells
@@ -56,7 +58,7 @@ pub record SinkSeen : Type 0 where
 -- ---- answers
 
 -- why there may be no tree: as is due, or by a fault of the shelf, or for want of memory
-abbrev pub MayBeUnbuilt : ShelfSeen → Result Listing Unbuilt → Unbuilt → Type 0
+abbrev pub MayBeUnbuilt : ShelfSeen → Result (List Export) Unbuilt → Unbuilt → Type 0
 MayBeUnbuilt shelf due Absent = due ≡ Err Absent
 MayBeUnbuilt shelf due (Refused refusal) = due ≡ Err (Refused refusal)
 MayBeUnbuilt shelf due (NoSuchExport name) = due ≡ Err (NoSuchExport name)
@@ -64,26 +66,17 @@ MayBeUnbuilt shelf due (Failed pipeline stage fault) = due ≡ Err (Failed pipel
 MayBeUnbuilt shelf due ReadFault = HasRisen shelf.faults
 MayBeUnbuilt shelf due NoMemory = Unit {0}
 
--- the answer: the tree that is due is exported, or it is not by a fault of the exporter or for want of memory, or there
--- is none
-abbrev pub MayAnswer : ShelfSeen → ExporterSeen → Result Listing Unbuilt → Answer → Type 0
-MayAnswer shelf exporter due (answers.Unbuilt unbuilt) = MayBeUnbuilt shelf due unbuilt
-MayAnswer shelf exporter due (answers.Exported tree) = due ≡ Ok tree
-MayAnswer shelf exporter due (answers.ExportFault tree) = (due ≡ Ok tree) × HasRisen exporter.faults
-MayAnswer shelf exporter due (answers.ExportNoMemory tree) = due ≡ Ok tree
+-- the answer: the exports that are due, or why there are none
+abbrev pub MayAnswer : ShelfSeen → Result (List Export) Unbuilt → Answer → Type 0
+MayAnswer shelf due (builds.Unbuilt unbuilt) = MayBeUnbuilt shelf due unbuilt
+MayAnswer shelf due (builds.Exports exports answers) = due ≡ Ok exports
 
 -- ---- trees
 
--- where the one build is exported: a folder of its place and the export's name
-abbrev pub folder_of : List ℕ → List ℕ
-folder_of export = codes "1/" ++ export
-
--- the operations that an answer comes with: the whole export, a proper front of it, or none
-abbrev pub Exports : ExporterSeen → List ℕ → Answer → Type 0
-Exports exporter folder (answers.Exported tree) = Appends exporter.before exporter.now (export_list folder tree)
-Exports exporter folder (answers.ExportFault tree) = StopsExport exporter.before exporter.now (export_list folder tree)
-Exports exporter folder (answers.ExportNoMemory tree) = StopsExport exporter.before exporter.now (export_list folder tree)
-Exports exporter folder (answers.Unbuilt unbuilt) = exporter.now ≡ exporter.before
+-- the operations that an answer comes with: those of its exports, or none
+abbrev pub HasExports : ExporterSeen → Answer → Type 0
+HasExports exporter (builds.Unbuilt unbuilt) = exporter.now ≡ exporter.before
+HasExports exporter (builds.Exports exports answers) = AreExported exporter exports answers
 
 -- ---- output and status
 
@@ -106,16 +99,19 @@ IsSinkFault sink text status = WritesFront sink text × (status ≡ 6) × HasRis
 abbrev pub IsWritten : SinkSeen → List ℕ → ℕ → ℕ → Type 0
 IsWritten sink text usual status = (Writes sink text × (status ≡ usual)) ⊎ IsSinkFault sink text status
 
--- the same; or there was want of memory
+-- the same; or there was want of memory before anything was written
 abbrev pub Ends : SinkSeen → List ℕ → ℕ → ℕ → Type 0
-Ends sink text usual status = IsWritten sink text usual status ⊎ (WritesFront sink text × (status ≡ 7))
+Ends sink text usual status = IsWritten sink text usual status ⊎ ((sink.now ≡ sink.before) × (status ≡ 7))
 
--- the status of an answer: 0 where the tree is exported, and else 1
+-- the status of an answer: 0 where every export is done, and else 1
+abbrev pub is_exported : ExportAnswer → Bool
+is_exported (Exported size) = true
+is_exported Fault = false
+is_exported NoMemoryLeft = false
+
 abbrev pub answer_status : Answer → ℕ
-answer_status (answers.Exported tree) = 0
-answer_status (answers.ExportFault tree) = 1
-answer_status (answers.ExportNoMemory tree) = 1
-answer_status (answers.Unbuilt unbuilt) = 1
+answer_status (builds.Unbuilt unbuilt) = 1
+answer_status (builds.Exports exports answers) = if list_all is_exported answers then 0 else 1
 
 -- ---- runs
 
@@ -124,20 +120,22 @@ pub record Answers (shelf : ShelfSeen) (exporter : ExporterSeen) (request : Requ
   pub found : Option (List ℕ)
   -- where the shelf tells, it was what the shelf holds there
   pub read : IfSome shelf.files (λ files. found ≡ file_of files request.manifest)
-  pub answers : MayAnswer shelf exporter (tree_due found request.export) answer
-  pub trees : Exports exporter (folder_of request.export) answer
+  pub answers : MayAnswer shelf (exports_due found request.exports) answer
+  pub trees : HasExports exporter answer
 
--- the run of a request: a build, its line, and its status
+-- the run of a request: a build, its lines, and its status
 pub record Builds (shelf : ShelfSeen) (exporter : ExporterSeen) (sink : SinkSeen) (request : Request) (status : ℕ) : Type 0 where
   pub answer : Answer
   pub answered : Answers shelf exporter request answer
-  pub output : Ends sink (answer_line 1 request.export answer) (answer_status answer) status
+  pub output : Ends sink (answer_lines 1 answer) (answer_status answer) status
 
--- the run of words that are no request: a line says so, and nothing is exported
-pub record Refuses (exporter : ExporterSeen) (sink : SinkSeen) (status : ℕ) : Type 0 where
+-- a run that ends with one line: nothing is exported
+pub record EndsEarly (exporter : ExporterSeen) (sink : SinkSeen) (line : List ℕ) (usual status : ℕ) : Type 0 where
   pub trees : exporter.now ≡ exporter.before
-  pub output : IsWritten sink (codes "words refused\n") 2 status
+  pub output : IsWritten sink line usual status
 
+-- words that are no request are refused, and others are built; for want of memory, before anything is built, neither may
+-- be known
 abbrev pub IsRun : Option Request → ShelfSeen → ExporterSeen → SinkSeen → ℕ → Type 0
-IsRun None shelf exporter sink status = Refuses exporter sink status
-IsRun (Some request) shelf exporter sink status = Builds shelf exporter sink request status
+IsRun None shelf exporter sink status = EndsEarly exporter sink (codes "words refused\n") 2 status ⊎ EndsEarly exporter sink (codes "want of memory\n") 7 status
+IsRun (Some request) shelf exporter sink status = Builds shelf exporter sink request status ⊎ EndsEarly exporter sink (codes "want of memory\n") 7 status

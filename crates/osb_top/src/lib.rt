@@ -5,10 +5,8 @@ mod answers;
 mod exports;
 mod lines;
 mod runs;
-#[cfg(test)]
-mod tests;
 mod words;
 mod writes;
 
-pub use answers::{Answer, Unbuilt};
+pub use answers::{Answer, Export, ExportAnswer, Unbuilt, exports_due};
 pub use runs::{Status, run_serial};

@@ -1,38 +1,83 @@
-ghost use Rattle.std.specs.Prelude.{◌≡◌, IfOk, string_bytes};
+ghost use Rattle.std.specs.Prelude.{◌≡◌, ◌++◌, IfOk, OnOk, string_bytes};
 ghost use Rattle.osb_tree.specs.Paths.{path_text};
-ghost use Rattle.osb_top.specs.Lines.{numbered, refusal_words, fault_words, unbuilt_words, answer_words, answer_line};
+ghost use Rattle.osb_top.specs.Lines.{numbered, option_words, refusal_words, fault_words, unbuilt_words, line_of, export_words, export_lines, answer_lines};
 
-use crate::answers::{Answer, Unbuilt};
+use crate::answers::{Answer, Export, ExportAnswer, Unbuilt};
 use osb_base::NoMemory;
 use osb_manifest::Refusal;
 use osb_pyjson::py_string;
-use osb_tree::{Path, StageFault};
+use osb_tree::{OptionFault, Path, StageFault};
 use std::alloc::Global;
 
-/// The line of a build: its place among the manifests, from 1, and what it was answered.
-pub fn answer_line(
-    alloc: Global,
-    place: usize,
-    export: &str,
-    answer: &Answer,
-) -> Result<String, NoMemory>
-    ensures { IfOk result (λ line. string_bytes line ≡ answer_line place export.now answer.now) }
-{
-    let words = answer_words(alloc, export, answer)?;
-    format!(in alloc; "{place} {words}\n")
-}
-
-fn answer_words(alloc: Global, export: &str, answer: &Answer) -> Result<String, NoMemory>
-    ensures { IfOk result (λ words. string_bytes words ≡ answer_words export.now answer.now) }
+/// The lines of a build, whose place among the manifests counts from 1: one for each export, or one that says why there
+/// are no trees.
+pub fn answer_lines(alloc: Global, place: usize, answer: &Answer) -> Result<String, NoMemory>
+    ensures lines { IfOk result (λ lines. string_bytes lines ≡ answer_lines place answer.now) }
 {
     match answer {
-        Answer::Unbuilt(unbuilt) => unbuilt_words(alloc, unbuilt),
-        Answer::Exported(tree) => {
-            let size = tree.size();
-            format!(in alloc; "{export} exported {size}")
+        Answer::Unbuilt(unbuilt) => {
+            let words = unbuilt_words(alloc, unbuilt)?;
+            format!(in alloc; "{place} {words}\n")
         }
-        Answer::ExportFault(_) => format!(in alloc; "{export} export fault"),
-        Answer::ExportNoMemory(_) => format!(in alloc; "{export} want of memory"),
+        Answer::Exports(exports, answers) => {
+            export_lines(alloc, place, exports.as_slice(), answers.as_slice())
+        }
+    }
+}
+
+fn export_lines(
+    alloc: Global,
+    place: usize,
+    exports: &[Export],
+    answers: &[ExportAnswer],
+) -> Result<String, NoMemory>
+    ensures { IfOk result (λ lines. string_bytes lines ≡ export_lines place exports.now answers.now) }
+{
+    let mut lines = String::new(alloc);
+    add_export_lines(alloc, place, exports, answers, &mut lines)?;
+    Ok(lines)
+}
+
+fn add_export_lines(
+    alloc: Global,
+    place: usize,
+    exports: &[Export],
+    answers: &[ExportAnswer],
+    lines: &mut String,
+) -> Result<(), NoMemory>
+    ensures { OnOk result (string_bytes lines.new ≡ string_bytes lines.old ++ export_lines place exports.now answers.now) }
+{
+    let Some((export, exports)) = exports.split_first() else {
+        return Ok(());
+    };
+    let Some((answer, answers)) = answers.split_first() else {
+        return Ok(());
+    };
+    add_export_line(alloc, place, export.name.as_str(), *answer, lines)?;
+    add_export_lines(alloc, place, exports, answers, lines)
+}
+
+fn add_export_line(
+    alloc: Global,
+    place: usize,
+    name: &str,
+    answer: ExportAnswer,
+    lines: &mut String,
+) -> Result<(), NoMemory>
+    ensures { OnOk result (string_bytes lines.new ≡ string_bytes lines.old ++ line_of place (export_words name.now answer)) }
+{
+    let words = export_words(alloc, name, answer)?;
+    let line = format!(in alloc; "{place} {words}\n")?;
+    lines.push_str(line.as_str())
+}
+
+fn export_words(alloc: Global, name: &str, answer: ExportAnswer) -> Result<String, NoMemory>
+    ensures { IfOk result (λ words. string_bytes words ≡ export_words name.now answer) }
+{
+    match answer {
+        ExportAnswer::Exported(size) => format!(in alloc; "{name} exported {size}"),
+        ExportAnswer::Fault => format!(in alloc; "{name} export fault"),
+        ExportAnswer::NoMemory => format!(in alloc; "{name} want of memory"),
     }
 }
 
@@ -104,14 +149,45 @@ fn numbered_name(alloc: Global, number: u8, name: &str) -> Result<String, NoMemo
     format!(in alloc; "{number} {name}")
 }
 
-/// The number of a refusal, and its place.
+/// The number of a refusal, and its place; of a member its name too, and of options what is wrong with them.
 fn refusal_words(alloc: Global, refusal: &Refusal) -> Result<String, NoMemory>
     ensures { IfOk result (λ words. string_bytes words ≡ refusal_words refusal.now) }
 {
     match refusal {
         Refusal::TooLong(place) => numbered_name(alloc, 1, place.as_str()),
         Refusal::NotJson(place) => numbered_name(alloc, 2, place.as_str()),
+        Refusal::NotObject(place) => numbered_name(alloc, 3, place.as_str()),
+        Refusal::Version(place) => numbered_name(alloc, 4, place.as_str()),
+        Refusal::TooMany(place) => numbered_name(alloc, 5, place.as_str()),
+        Refusal::Member(place, name) => {
+            let place = numbered_name(alloc, 6, place.as_str())?;
+            let name = py_string(alloc, name.as_str())?;
+            let name = name.as_str();
+            format!(in alloc; "{place} {name}")
+        }
+        Refusal::BadNumber(place) => numbered_name(alloc, 7, place.as_str()),
+        Refusal::DuplicatePipeline(place) => numbered_name(alloc, 8, place.as_str()),
+        Refusal::UnknownStage(place) => numbered_name(alloc, 10, place.as_str()),
+        Refusal::Options(place, fault) => {
+            let place = numbered_name(alloc, 15, place.as_str())?;
+            let fault = option_words(alloc, fault)?;
+            format!(in alloc; "{place} {fault}")
+        }
         Refusal::NotYet(place) => numbered_name(alloc, 16, place.as_str()),
         Refusal::NoMemory => String::from_str(alloc, "want of memory"),
+    }
+}
+
+/// The number of an option's fault, and the member's name.
+fn option_words(alloc: Global, fault: &OptionFault) -> Result<String, NoMemory>
+    ensures { IfOk result (λ words. string_bytes words ≡ option_words fault.now) }
+{
+    match fault {
+        OptionFault::Missing(name) => numbered_name(alloc, 1, name.as_str()),
+        OptionFault::WrongKind(name) => numbered_name(alloc, 2, name.as_str()),
+        OptionFault::OutOfRange(name) => numbered_name(alloc, 3, name.as_str()),
+        OptionFault::BadPath(name) => numbered_name(alloc, 4, name.as_str()),
+        OptionFault::UnknownMember(name) => numbered_name(alloc, 5, name.as_str()),
+        OptionFault::NoMemory => String::from_str(alloc, "want of memory"),
     }
 }

@@ -1,25 +1,24 @@
-ghost use Rattle.std.specs.Prelude.{◌≡◌, codes, map, string_bytes, None, OnOk, OnErr};
-ghost use Rattle.osb_base.specs.Faults.{HasCause, Rose};
-ghost use Rattle.osb_top.specs.Exports.{export_list, Appends, StopsExport};
-ghost use Rattle.osb_top.specs.Lines.{answer_line};
-ghost use Rattle.osb_top.specs.Runs.{request_of, folder_of, answer_status, Answers, IsWritten, Ends, IsRun};
-ghost use Rattle.osb_top.specs.Steps.{IsBuild, IsExport};
+ghost use Rattle.std.specs.Prelude.{◌≡◌, codes, map, string_bytes, None};
+ghost use Rattle.std.specs.List.{list_all};
+ghost use Rattle.osb_base.specs.Faults.{Rose};
+ghost use Rattle.osb_top.specs.Lines.{answer_lines};
+ghost use Rattle.osb_top.specs.Runs.{request_of, is_exported, answer_status, Answers, IsWritten, Ends, IsRun};
+ghost use Rattle.osb_top.specs.Steps.{IsBuild, IsExporting};
 
-use crate::answers::{Answer, Unbuilt, tree_due};
-use crate::exports::export;
-use crate::lines::answer_line;
+use crate::answers::{Answer, Export, ExportAnswer, Unbuilt, exports_due};
+use crate::exports::export_all;
+use crate::lines::answer_lines;
 use crate::words::{Request, request_of};
 use crate::writes::write_all;
-use osb_base::{Exporter, ReadStop, Shelf, Sink, WriteStop};
-use osb_tree::Tree;
+use osb_base::{Exporter, List, ReadStop, Shelf, Sink};
 use std::alloc::Global;
 
-/// How a run ended: 0 where the tree is exported, 1 where the build has another answer, 2 where the words are refused,
-/// 6 where the sink failed, 7 for want of memory outside the build.
+/// How a run ended: 0 where every tree is exported, 1 where the build or an export has another answer, 2 where the words
+/// are refused, 6 where the sink failed, 7 for want of memory outside the build.
 #[derive(Clone, Copy, Debug, PartialEq, Eq)]
 pub struct Status(pub u8);
 
-/// Builds one manifest and exports one of its pipelines, as the words ask.
+/// Builds one manifest and exports some of its pipelines, as the words ask.
 pub fn run_serial<H: Shelf, E: Exporter, O: Sink>(
     alloc: Global,
     words: &[String],
@@ -37,108 +36,92 @@ pub fn run_serial<H: Shelf, E: Exporter, O: Sink>(
     ensures words_refused { result.0 ≡ 2 → request_of (map string_bytes words.now) ≡ None }
     ensures sink_failed { result.0 ≡ 6 → Rose (O.sink_faults out.old) (O.sink_faults out.new) }
 {
-    let Some(request) = request_of(words) else {
-        return refuse_words(out);
-    };
-    let answer = answer(alloc, request, shelf, exporter);
-    write_answer(alloc, request.export, &answer, out)
+    match request_of(alloc, words) {
+        Ok(Some(request)) => {
+            let answer = answer(alloc, &request, shelf, exporter);
+            write_answer(alloc, &answer, out)
+        }
+        Ok(None) => write_text("words refused\n", 2, out),
+        Err(_) => write_text("want of memory\n", 7, out),
+    }
 }
 
 fn answer<H: Shelf, E: Exporter>(
     alloc: Global,
-    request: Request,
+    request: &Request,
     shelf: &mut H,
     exporter: &mut E,
 ) -> Answer
     ensures { Answers
         (record { files = H.files shelf.old; faults = record { before = H.shelf_faults shelf.old; now = H.shelf_faults shelf.new } })
         (record { before = E.done exporter.old; now = E.done exporter.new; faults = record { before = E.export_faults exporter.old; now = E.export_faults exporter.new } })
-        (record { manifest = request.entry.manifest.now; export = request.entry.export.now })
-        result }
+        request.now result }
 {
     match build(alloc, request, shelf) {
-        Ok(tree) => export_tree(alloc, request.export, tree, exporter),
+        Ok(exports) => export_answer(alloc, exports, exporter),
         Err(unbuilt) => Answer::Unbuilt(unbuilt),
     }
 }
 
-/// Reads the manifest and makes the tree to export.
-fn build<H: Shelf>(alloc: Global, request: Request, shelf: &mut H) -> Result<Tree, Unbuilt>
+/// Reads the manifest and makes the trees to export.
+fn build<H: Shelf>(alloc: Global, request: &Request, shelf: &mut H) -> Result<List<Export>, Unbuilt>
     ensures { IsBuild
         (record { files = H.files shelf.old; faults = record { before = H.shelf_faults shelf.old; now = H.shelf_faults shelf.new } })
-        (record { manifest = request.entry.manifest.now; export = request.entry.export.now })
-        result }
+        request.now result }
 {
-    match shelf.read(alloc, request.manifest) {
-        Ok(found) => tree_due(alloc, found, request.export),
+    match shelf.read(alloc, request.manifest.as_str()) {
+        Ok(found) => exports_due(alloc, found, request.exports.as_slice()),
         Err(ReadStop::Failed) => Err(Unbuilt::ReadFault),
         Err(ReadStop::NoMemory) => Err(Unbuilt::NoMemory),
     }
 }
 
-/// Exports the tree of the one build.
-fn export_tree<E: Exporter>(alloc: Global, name: &str, tree: Tree, exporter: &mut E) -> Answer
-    ensures { IsExport (record { before = E.done exporter.old; now = E.done exporter.new; faults = record { before = E.export_faults exporter.old; now = E.export_faults exporter.new } }) name.now tree result }
+fn export_answer<E: Exporter>(alloc: Global, exports: List<Export>, exporter: &mut E) -> Answer
+    ensures { IsExporting (record { before = E.done exporter.old; now = E.done exporter.new; faults = record { before = E.export_faults exporter.old; now = E.export_faults exporter.new } }) exports result }
 {
-    match export_into(alloc, name, &tree, exporter) {
-        Ok(()) => Answer::Exported(tree),
-        Err(WriteStop::Failed) => Answer::ExportFault(tree),
-        Err(WriteStop::NoMemory) => Answer::ExportNoMemory(tree),
+    match export_all(alloc, exports.as_slice(), exporter) {
+        Ok(answers) => Answer::Exports(exports, List::new(answers)),
+        Err(_) => Answer::Unbuilt(Unbuilt::NoMemory),
     }
 }
 
-/// Writes the line of an answer, and gives its status.
-fn write_answer<O: Sink>(alloc: Global, export: &str, answer: &Answer, out: &mut O) -> Status
+/// Writes the lines of an answer, and gives its status.
+fn write_answer<O: Sink>(alloc: Global, answer: &Answer, out: &mut O) -> Status
     ensures { Ends (record { before = O.taken out.old; now = O.taken out.new; faults = record { before = O.sink_faults out.old; now = O.sink_faults out.new } })
-        (answer_line 1 export.now answer.now) (answer_status answer.now) result.0 }
+        (answer_lines 1 answer.now) (answer_status answer.now) result.0 }
 {
-    let Ok(line) = answer_line(alloc, 1, export, answer) else {
+    let Ok(lines) = answer_lines(alloc, 1, answer) else {
         return Status(7);
     };
-    write_line(line.as_str(), answer_status(answer), out)
+    write_text(lines.as_str(), answer_status(answer), out)
 }
 
 fn answer_status(answer: &Answer) -> u8
     ensures { result ≡ answer_status answer.now }
 {
     match answer {
-        Answer::Exported(_) => 0,
+        Answer::Exports(_, answers) if are_exported(answers.as_slice()) => 0,
         _ => 1,
     }
 }
 
-/// Says that the words are refused.
-fn refuse_words<O: Sink>(out: &mut O) -> Status
-    ensures { IsWritten (record { before = O.taken out.old; now = O.taken out.new; faults = record { before = O.sink_faults out.old; now = O.sink_faults out.new } })
-        (codes "words refused\n") 2 result.0 }
+fn are_exported(answers: &[ExportAnswer]) -> bool
+    ensures { result ≡ list_all is_exported answers.now }
 {
-    write_line("words refused\n", 2, out)
+    answers
+        .iter()
+        .all(|answer| matches!(answer, ExportAnswer::Exported(_)))
 }
 
-/// Writes a line. The status is the usual one, unless the sink fails.
-fn write_line<O: Sink>(line: &str, usual: u8, out: &mut O) -> Status
+/// Writes a text. The status is the usual one, unless the sink fails.
+fn write_text<O: Sink>(text: &str, usual: u8, out: &mut O) -> Status
     ensures { IsWritten (record { before = O.taken out.old; now = O.taken out.new; faults = record { before = O.sink_faults out.old; now = O.sink_faults out.new } })
-        line.now usual result.0 }
+        text.now usual result.0 }
 {
-    let text = line.as_bytes();
-    if write_all(text, out) == text.len() {
+    let bytes = text.as_bytes();
+    if write_all(bytes, out) == bytes.len() {
         Status(usual)
     } else {
         Status(6)
     }
-}
-
-/// Exports a tree into the folder of the one build.
-fn export_into<E: Exporter>(
-    alloc: Global,
-    name: &str,
-    tree: &Tree,
-    exporter: &mut E,
-) -> Result<(), WriteStop>
-    ensures ok { OnOk result (Appends (E.done exporter.old) (E.done exporter.new) (export_list (folder_of name.now) tree.now)) }
-    ensures err { OnErr result (StopsExport (E.done exporter.old) (E.done exporter.new) (export_list (folder_of name.now) tree.now)) }
-    ensures cause { HasCause WriteStop.Failed (E.export_faults exporter.old) (E.export_faults exporter.new) result }
-{
-    let folder = format!(in alloc; "1/{name}")?;
-    export(alloc, tree, folder.as_str(), exporter)
 }

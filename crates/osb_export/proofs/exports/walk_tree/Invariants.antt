@@ -1,8 +1,8 @@
 use Rattle.std.proofs.Common.{◌≡◌, ◌≤◌, List, ◌++◌, map, take, drop, string_bytes}
 use Rattle.osb_tree.specs.Trees.{IsTree}
-use Rattle.osb_top.specs.Exports.{op_of, list_text, Appends}
-use Rattle.osb_top.proofs.Walks.{first_path}
-use Rattle.osb_top.proofs.exports.export.Given as goal
+use Rattle.osb_export.specs.Exports.{op_of, list_text, Appends}
+use Rattle.osb_export.proofs.Walks.{first_path}
+use Rattle.osb_export.proofs.exports.walk_tree.Given as goal
 
 -- the next path, the lines of the paths so far, and their operations
 abbrev pub invariant-loop : goal.invariant-loop

@@ -1,13 +1,13 @@
 use Rattle.std.proofs.Common.{◌≡◌, ◌<◌, IsSome, refl, sym, ◌∙◌, ap, subst, arith, rules}
-use Rattle.osb_top.specs.Exports.{list_text}
-use Rattle.osb_top.proofs.Walks.{first_path-root, first_path-within, visit_at}
-use Rattle.osb_top.proofs.Exporting.{appends_nothing, list_on, done_on, stops_before_finish, on_refused_op, on_err}
-use Rattle.osb_top.proofs.exports.export.Goals as goal
+use Rattle.osb_export.specs.Exports.{list_text}
+use Rattle.osb_export.proofs.Walks.{first_path-root, first_path-within, visit_at}
+use Rattle.osb_export.proofs.Exporting.{appends_nothing, list_on, done_on, stops_before_finish, on_refused_op, on_err}
+use Rattle.osb_export.proofs.exports.walk_tree.Goals as goal
 
 pub loop-init : goal.loop-init
 loop-init g c = record {
   tree = c.len-end.ensures.tree;
-  next = rw c.root.ensures (first_path-root _ c.len-end.ensures.tree);
+  next = rw c.root.ensures.root (first_path-root _ c.len-end.ensures.tree);
   list = rw c.new-list.ensures.bytes refl;
   done = appends_nothing _;
   later = omega arith;

@@ -7,8 +7,8 @@ use Rattle.osb_tree.specs.declared.nodes.Node.{Node}
 use Rattle.osb_base.specs.Exports.{after_op}
 use Rattle.osb_base.specs.declared.exporters.Op.{Op}
 use Rattle.osb_base.specs.declared.exporters.Op.TheVariants.{Finish}
-use Rattle.osb_top.specs.Exports.{op_of, list_line, list_text, export_list, Appends, IsProperPrefix, StopsExport}
-use Rattle.osb_top.proofs.Walks.{Visit}
+use Rattle.osb_export.specs.Exports.{op_of, list_line, list_text, export_list, Appends, IsProperPrefix, StopsExport}
+use Rattle.osb_export.proofs.Walks.{Visit}
 
 pub appends_nothing : (done : Option (List Op)) → Appends done done []
 appends_nothing None = refl

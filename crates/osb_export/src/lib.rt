@@ -1,0 +1,6 @@
+//! Exports of trees.
+#![tactic(auto)]
+
+mod exports;
+
+pub use exports::{ExportFault, export};
