@@ -1,5 +1,5 @@
 //! Trees exported as folders and files of the system.
-ghost use Rattle.std.specs.Prelude.{◌≡◌, ◌++◌, codes, None, string_bytes, IfOk};
+ghost use Rattle.std.specs.Prelude.{◌≡◌, ◌++◌, codes, None, Err, string_bytes, IfOk};
 ghost use Rattle.osb_base.specs.Faults.{HasCause};
 
 use crate::stops::write_stop;
@@ -38,6 +38,7 @@ impl<'a, R: Files> FolderExporter<'a, R> {
     fn count(&mut self, done: Result<(), WriteStop>) -> Result<(), WriteStop>
         ensures same { result ≡ done }
         ensures cause { HasCause WriteStop.Failed self.old.faults self.new.faults result }
+        ensures unmade { result ≡ Err WriteStop.NoMemory → self.new.faults ≡ self.old.faults }
     {
         if matches!(done, Err(WriteStop::Failed)) {
             self.faults = self.faults.saturating_add(1);

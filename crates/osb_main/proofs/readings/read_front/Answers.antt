@@ -16,7 +16,7 @@ returns-then-branch-clause-front g c =
     let all = subst (Consumes _ _) (sym grown) (Consumes-append _ _ _ _ piece consumed more) in
     let whole = c.in_ok-read_more.ensures.end (search rules) in
     let within : length c.read_more.new.front.items ≤ 16777217 = search (rules, places) in
-    subst (λ front. IfSome (g.F.Read.remaining c.args.file.now) (λ bytes. front ≡ cut bytes)) (sym c.new.ensures) (cut_whole _ _ _ all within whole)
+    subst (λ front. IfSome (g.F.Read.remaining c.args.file.now) (λ bytes. front ≡ cut bytes)) (sym c.new.ensures.content) (cut_whole _ _ _ all within whole)
 
 pub loop-preserved : goal.loop-preserved
 loop-preserved g c =
