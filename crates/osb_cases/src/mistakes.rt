@@ -1,0 +1,75 @@
+use std::alloc::AllocError;
+use thiserror::Error;
+
+/// What is wrong with a line of a case file.
+#[derive(Clone, Copy, Debug, PartialEq, Eq, Error)]
+pub enum Mistake {
+    #[error("a line begins with a blank, and not with four spaces")]
+    Indented,
+    #[error("a block stands below no line that takes one")]
+    StrayBlock,
+    #[error("a line with a value has a block too")]
+    ValueAndBlock,
+    #[error("no such kind of call is known")]
+    UnknownCall,
+    #[error("a line stands before the first `call`")]
+    NoCall,
+    #[error("the file has no case")]
+    NoCase,
+    #[error("a case has no name")]
+    NoName,
+    #[error("an earlier case of the file has this name")]
+    SameName,
+    #[error("a line of this kind stands here already")]
+    GivenTwice,
+    #[error("this kind of call takes no such line")]
+    UnknownLine,
+    #[error("the case has no `due` line")]
+    NothingDue,
+    #[error("this kind of call has no such section")]
+    UnknownSection,
+    #[error("this kind of call needs a line that is not given")]
+    NotGiven,
+    #[error("no such part is known")]
+    UnknownPart,
+    #[error("`parts` has no block")]
+    NoParts,
+    #[error("the `part` that is inserted is not given")]
+    PartNotGiven,
+    #[error("no number stands where one is due")]
+    NoNumber,
+    #[error("these are no bytes in hex")]
+    NotHex,
+    #[error("the text is not UTF-8")]
+    NotUtf8,
+    #[error("the text is no JSON value")]
+    NotJson,
+    #[error("the value is no object")]
+    NotAnObject,
+    #[error("this is no object whose calls can fail")]
+    UnknownObject,
+    #[error("a line of the text is no put")]
+    NotAPut,
+    #[error("the text is no path")]
+    NotAPath,
+    #[error("the node's mode, owners or target are not in their ranges")]
+    NodeOutOfRange,
+}
+
+/// Why a case file was not run to its end.
+#[derive(Debug, Drop, Error)]
+pub enum CaseFault {
+    #[error("{line}: {mistake}")]
+    Malformed { line: usize, mistake: Mistake },
+    #[error(" want of memory")]
+    NoMemory(#[from(alloc)] AllocError),
+}
+
+impl Mistake {
+    pub fn at(self, line: usize) -> CaseFault {
+        CaseFault::Malformed {
+            line,
+            mistake: self,
+        }
+    }
+}

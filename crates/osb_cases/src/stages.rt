@@ -1,0 +1,127 @@
+use crate::cases::Case;
+use crate::entries::Entry;
+use crate::mistakes::{CaseFault, Mistake};
+use crate::nodes::node_line;
+use crate::parts::text_of;
+use crate::puts::tree_of;
+use osb_base::NoMemory;
+use osb_recipe::{KindFault, StageKind};
+use osb_tree::{Inputs, List, OptionFault, Path, StageFault, Tree};
+use serde_json::Value;
+use std::alloc::{AllocError, Global};
+
+/// What came of a stage over the tree that a case puts together.
+#[derive(Drop)]
+pub struct StageRun {
+    answer: String,
+    /// The tree after it, and none after a fault.
+    tree: Option<Tree>,
+}
+
+/// Reads the case's stage, and applies it to the case's tree.
+pub fn run_stage(alloc: Global, case: &Case) -> Result<StageRun, CaseFault> {
+    let stage = text_of(alloc, case, case.needed("type")?)?;
+    let entry = case.needed("options")?;
+    let text = text_of(alloc, case, entry)?;
+    let Ok(options) = Value::from_str(alloc, text.as_str()) else {
+        return Err(Mistake::NotJson.at(entry.line));
+    };
+    if !options.is_object() {
+        return Err(Mistake::NotAnObject.at(entry.line));
+    }
+    match StageKind::read(alloc, stage.as_str(), &options) {
+        Ok(kind) => applied(alloc, &kind, tree_of(alloc, case)?),
+        Err(KindFault::UnknownStage) => answered(String::from_str(alloc, "unknown stage")?),
+        Err(KindFault::Options(fault)) => answered(option_words(alloc, &fault)?),
+        Err(KindFault::NoMemory) => Err(CaseFault::NoMemory(AllocError)),
+    }
+}
+
+fn applied(alloc: Global, kind: &StageKind, tree: Tree) -> Result<StageRun, CaseFault> {
+    let inputs = Inputs {
+        trees: List::new(Vec::new(alloc)),
+    };
+    match kind.apply(alloc, tree, &inputs) {
+        Ok(tree) => Ok(StageRun {
+            answer: String::from_str(alloc, "ok")?,
+            tree: Some(tree),
+        }),
+        Err(fault) => answered(fault_words(alloc, &fault)?),
+    }
+}
+
+/// A stage with a fault.
+fn answered(answer: String) -> Result<StageRun, CaseFault> {
+    Ok(StageRun { answer, tree: None })
+}
+
+fn option_words(alloc: Global, fault: &OptionFault) -> Result<String, CaseFault> {
+    let (words, name) = match fault {
+        OptionFault::Missing(name) => ("options 1 Missing", name),
+        OptionFault::WrongKind(name) => ("options 2 WrongKind", name),
+        OptionFault::OutOfRange(name) => ("options 3 OutOfRange", name),
+        OptionFault::BadPath(name) => ("options 4 BadPath", name),
+        OptionFault::UnknownMember(name) => ("options 5 UnknownMember", name),
+        OptionFault::NoMemory => return Err(CaseFault::NoMemory(AllocError)),
+    };
+    Ok(format!(in alloc; "{words} {}", name.as_str())?)
+}
+
+fn fault_words(alloc: Global, fault: &StageFault) -> Result<String, CaseFault> {
+    let text = match fault {
+        StageFault::Missing(path) => at_path(alloc, "fault 1 Missing", path)?,
+        StageFault::Exists(path) => at_path(alloc, "fault 2 Exists", path)?,
+        StageFault::NotADir(path) => at_path(alloc, "fault 3 NotADir", path)?,
+        StageFault::NotAFile(path) => at_path(alloc, "fault 4 NotAFile", path)?,
+        StageFault::NoInput(name) => format!(in alloc; "fault 5 NoInput {}", name.as_str())?,
+        StageFault::NoAccount(name) => format!(in alloc; "fault 6 NoAccount {}", name.as_str())?,
+        StageFault::AccountExists(name) => {
+            format!(in alloc; "fault 7 AccountExists {}", name.as_str())?
+        }
+        StageFault::NumberTaken(number) => format!(in alloc; "fault 8 NumberTaken {number}")?,
+        StageFault::BadLine(path, line) => {
+            let text = at_path(alloc, "fault 9 BadLine", path)?;
+            format!(in alloc; "{text} {line}")?
+        }
+        StageFault::ToolMissing(path) => at_path(alloc, "fault 10 ToolMissing", path)?,
+        StageFault::Asked(number) => format!(in alloc; "fault 11 Asked {number}")?,
+        StageFault::TreeTooLarge => String::from_str(alloc, "fault 12 TreeTooLarge")?,
+        StageFault::NoMemory => return Err(CaseFault::NoMemory(AllocError)),
+    };
+    Ok(text)
+}
+
+fn at_path(alloc: Global, words: &str, path: &Path) -> Result<String, NoMemory> {
+    format!(in alloc; "{words} {}", path.text(alloc)?.as_str())
+}
+
+impl StageRun {
+    /// What came at a section, and `None` where a stage has no such section.
+    pub fn section(&self, alloc: Global, due: &Entry) -> Result<Option<String>, NoMemory> {
+        let text = match (due.name.as_str(), &self.tree) {
+            ("answer", _) => self.answer.clone()?,
+            ("size" | "nodes", None) => String::from_str(alloc, "none")?,
+            ("size", Some(tree)) => format!(in alloc; "{}", tree.size())?,
+            ("nodes", Some(tree)) => node_lines(alloc, tree)?,
+            _ => return Ok(None),
+        };
+        Ok(Some(text))
+    }
+}
+
+/// What stands at each path, a line each.
+fn node_lines(alloc: Global, tree: &Tree) -> Result<String, NoMemory> {
+    let mut lines = String::new(alloc);
+    let mut next = Some(Path::root(alloc));
+    for _ in 0..tree.len() {
+        let Some(path) = next else {
+            return Ok(lines);
+        };
+        if let Some(node) = tree.get(&path) {
+            lines.push_str(node_line(alloc, path.text(alloc)?.as_str(), node)?.as_str())?;
+            lines.push('\n')?;
+        }
+        next = tree.next_path(&path)?;
+    }
+    Ok(lines)
+}
