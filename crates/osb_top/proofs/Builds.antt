@@ -18,8 +18,9 @@ use Rattle.osb_manifest.specs.declared.manifests.Refusal.TheVariants.{TooLong}
 use Rattle.osb_manifest.specs.declared.exports.NoSuchExport.{NoSuchExport as Lacks}
 use Rattle.osb_manifest.specs.declared.exports.NoSuchExport.TheVariants as lacks
 use Rattle.osb_top.specs.Answers.{ok_map, exports_due, manifest_due, needed_due, built_due, exports_of, with_export, trees_of, and_trees, named_tree, tree_of, built, pipeline_tree}
-use Rattle.osb_top.specs.Runs.{ShelfSeen, MayBeUnbuilt}
+use Rattle.osb_top.specs.Runs.{ShelfSeen}
 use Rattle.osb_top.specs.Steps.{IsBuild}
+use Rattle.osb_top.proofs.Givens.{NoFault, given_read}
 use Rattle.osb_top.specs.declared.words.Request.{Request}
 use Rattle.osb_top.specs.declared.answers.Export.{Export}
 use Rattle.osb_top.specs.declared.answers.Unbuilt.{Unbuilt}
@@ -43,25 +44,7 @@ pub exports_due-cut : (found : Option (List ℕ)) (names : List (List ℕ)) → 
 exports_due-cut None names = refl
 exports_due-cut (Some bytes) names = ap (manifest_due names) (manifest_of-cut bytes)
 
--- ---- what stands under a name: what the shelf holds there, where it tells, and else what it gave
-
-abbrev pub found_under : Option Files → List ℕ → Option (List ℕ) → Option (List ℕ)
-found_under None name given = given
-found_under (Some files) name given = file_of files name
-
-held_under : (held : Option Files) (name : List ℕ) (given : Option (List ℕ)) → IfSome held (λ files. found_under held name given ≡ file_of files name)
-held_under None name given = tt
-held_under (Some files) name given = refl
-
-due_under : (held : Option Files) (name : List ℕ) (given : Option (List ℕ)) (names : List (List ℕ)) → IfSome held (λ files. given ≡ option_map cut (file_of files name)) → exports_due given names ≡ exports_due (found_under held name given) names
-due_under None name given names h = refl
-due_under (Some files) name given names h = ap (λ found. exports_due found names) h ∙ exports_due-cut (file_of files name) names
-
 -- ---- what is due is no fault of the outside
-
--- neither a result nor another error is a read fault
-abbrev NoFault : {A : Type 0} → Result A Unbuilt → Type 0
-NoFault result = result ≡ Err ReadFault → ⊥
 
 built-fault : (name : List ℕ) (result : Result Listing (ℕ × StageFault)) → NoFault (built name result)
 built-fault name (Ok listing) e = cc
@@ -113,29 +96,8 @@ exports_due-fault (Some bytes) names e = manifest_due-fault names (manifest_of b
 
 -- ---- builds
 
-by_due : (shelf : ShelfSeen) (due result : Result (List Export) Unbuilt) → (due ≡ Err ReadFault → ⊥) → (result ≢ Err NoMemory → result ≡ due) → MatchResult result (λ exports. due ≡ Ok exports) (MayBeUnbuilt shelf due)
-by_due shelf due (Ok exports) fault h = sym (h (λ e. cc))
-by_due shelf due (Err Absent) fault h = sym (h (λ e. cc))
-by_due shelf due (Err ReadFault) fault h = absurd (fault (sym (h (λ e. cc))))
-by_due shelf due (Err (Refused refusal)) fault h = sym (h (λ e. cc))
-by_due shelf due (Err (NoSuchExport name)) fault h = sym (h (λ e. cc))
-by_due shelf due (Err (Failed pipeline stage fault')) fault h = sym (h (λ e. cc))
-by_due shelf due (Err NoMemory) fault h = tt
-
 -- a manifest that was read
 pub build_read : (shelf : ShelfSeen) (request : Request) (given : Option (List ℕ)) (result : Result (List Export) Unbuilt) → IfSome shelf.files (λ files. given ≡ option_map cut (file_of files request.manifest)) → (result ≢ Err NoMemory → result ≡ exports_due given request.exports) → IsBuild shelf request result
-build_read shelf request given result held h = record {
-  found = found_under shelf.files request.manifest given;
-  read = held_under shelf.files request.manifest given;
-  due = by_due shelf (exports_due (found_under shelf.files request.manifest given) request.exports) result
-      (exports_due-fault (found_under shelf.files request.manifest given) request.exports)
-      (λ n. h n ∙ due_under shelf.files request.manifest given request.exports held);
-}
-
--- one that was not
-pub build_unread : (shelf : ShelfSeen) (request : Request) (unbuilt : Unbuilt) → ((due : Result (List Export) Unbuilt) → MayBeUnbuilt shelf due unbuilt) → IsBuild shelf request (Err unbuilt)
-build_unread shelf request unbuilt may = record {
-  found = found_under shelf.files request.manifest None;
-  read = held_under shelf.files request.manifest None;
-  due = may (exports_due (found_under shelf.files request.manifest None) request.exports);
-}
+build_read shelf request given result held h =
+    given_read shelf request.manifest (λ found. exports_due found request.exports) given result
+    (λ found. exports_due-fault found request.exports) (λ found. exports_due-cut found request.exports) held h

@@ -3,3 +3,5 @@ pub mod ManyExports
 pub mod Trees
 pub mod ExportNames
 pub mod Writing
+pub mod Givens
+pub mod Inspecting

@@ -28,7 +28,8 @@ past_end (x ∷ xs) (suc i) h = past_end xs i (omega arith)
 
 -- the items from a place on are the one there and the others
 drop_next : {A : Type 0} (xs : List A) (i : ℕ) (x : A) → i < length xs → x ≡ get_or xs i x → drop i xs ≡ x ∷ drop (i + 1) xs
-drop_next xs i x h e = rw (drop-cons xs i x, ← e, ← add-one) refl
+drop_next xs i x h e =
+    drop-cons xs i x h ∙ ap (λ head. head ∷ drop (suc i) xs) (sym e) ∙ ap (λ j. x ∷ drop j xs) (sym (add-one i))
 
 -- ---- trees
 

@@ -57,8 +57,8 @@ pub record SinkSeen : Type 0 where
 
 -- ---- answers
 
--- why there may be no tree: as is due, or by a fault of the shelf, or for want of memory
-abbrev pub MayBeUnbuilt : ShelfSeen → Result (List Export) Unbuilt → Unbuilt → Type 0
+-- why there may be nothing: as is due, or by a fault of the shelf, or for want of memory
+abbrev pub MayBeUnbuilt : {A : Type 0} → ShelfSeen → Result A Unbuilt → Unbuilt → Type 0
 MayBeUnbuilt shelf due Absent = due ≡ Err Absent
 MayBeUnbuilt shelf due (Refused refusal) = due ≡ Err (Refused refusal)
 MayBeUnbuilt shelf due (NoSuchExport name) = due ≡ Err (NoSuchExport name)

@@ -1,8 +1,9 @@
 -- What the steps of a run leave, one after another.
-use Rattle.std.specs.Prelude.{◌≡◌, ℕ, List, Option, Result, Ok, MatchResult, IfSome}
+use Rattle.std.specs.Prelude.{◌≡◌, ◌≢◌, ◌⊎◌, ℕ, List, Option, Result, Ok, Err, MatchResult, IfSome}
 use Rattle.osb_base.specs.Shelves.{file_of}
 use Rattle.osb_top.specs.Answers.{exports_due}
-use Rattle.osb_top.specs.Runs.{ShelfSeen, MayBeUnbuilt}
+use Rattle.osb_top.specs.Runs.{ShelfSeen, SinkSeen, MayBeUnbuilt, IsWritten}
+use Rattle.osb_top.specs.Inspects.{inspect_due, inspect_out, inspect_status}
 use Rattle.osb_top.specs.declared.words.Request.{Request}
 use Rattle.osb_top.specs.Exports.{ExporterSeen, AreExported}
 use Rattle.osb_top.specs.declared.answers.Unbuilt.{Unbuilt}
@@ -11,11 +12,25 @@ use Rattle.osb_top.specs.declared.answers.Answer.{Answer}
 use Rattle.osb_top.specs.declared.answers.Answer.TheVariants as builds
 use Rattle.osb_top.specs.declared.answers.Export.{Export}
 
--- the exports that are due by what was found, or why there are none
-pub record IsBuild (shelf : ShelfSeen) (request : Request) (result : Result (List Export) Unbuilt) : Type 0 where
+-- a result by what was found under a name: what is due for it, or why there is nothing
+pub record IsGiven (A : Type 0) (shelf : ShelfSeen) (name : List ℕ) (due : Option (List ℕ) → Result A Unbuilt) (result : Result A Unbuilt) : Type 0 where
   pub found : Option (List ℕ)
-  pub read : IfSome shelf.files (λ files. found ≡ file_of files request.manifest)
-  pub due : MatchResult result (λ exports. exports_due found request.exports ≡ Ok exports) (MayBeUnbuilt shelf (exports_due found request.exports))
+  pub read : IfSome shelf.files (λ files. found ≡ file_of files name)
+  pub given : MatchResult result (λ value. due found ≡ Ok value) (MayBeUnbuilt shelf (due found))
+
+-- the exports that are due, or why there are none
+abbrev pub IsBuild : ShelfSeen → Request → Result (List Export) Unbuilt → Type 0
+IsBuild shelf request result = IsGiven (List Export) shelf request.manifest (λ found. exports_due found request.exports) result
+
+-- the text of `inspect` that is due, or why there is none
+abbrev pub IsInspection : ShelfSeen → List ℕ → Result (List ℕ) Unbuilt → Type 0
+IsInspection shelf name result = IsGiven (List ℕ) shelf name inspect_due result
+
+-- the text is written, or why there is none; for want of memory, nothing may be
+abbrev pub WritesInspected : SinkSeen → Result (List ℕ) Unbuilt → ℕ → Type 0
+WritesInspected sink text status =
+    ((text ≢ Err NoMemory) × IsWritten sink (inspect_out text) (inspect_status text) status)
+    ⊎ ((sink.now ≡ sink.before) × (status ≡ 7))
 
 -- what became of the exports: there was no memory for their answers, or they are answered
 abbrev pub IsExporting : ExporterSeen → List Export → Answer → Type 0

@@ -86,7 +86,7 @@ fn export_answer<E: Exporter>(alloc: Global, exports: List<Export>, exporter: &m
 }
 
 /// Writes the lines of an answer, and gives its status.
-fn write_answer<O: Sink>(alloc: Global, answer: &Answer, out: &mut O) -> Status
+pub fn write_answer<O: Sink>(alloc: Global, answer: &Answer, out: &mut O) -> Status
     ensures { Ends (record { before = O.taken out.old; now = O.taken out.new; faults = record { before = O.sink_faults out.old; now = O.sink_faults out.new } })
         (answer_lines 1 answer.now) (answer_status answer.now) result.0 }
 {
@@ -114,12 +114,19 @@ fn are_exported(answers: &[ExportAnswer]) -> bool
 }
 
 /// Writes a text. The status is the usual one, unless the sink fails.
-fn write_text<O: Sink>(text: &str, usual: u8, out: &mut O) -> Status
+pub fn write_text<O: Sink>(text: &str, usual: u8, out: &mut O) -> Status
     ensures { IsWritten (record { before = O.taken out.old; now = O.taken out.new; faults = record { before = O.sink_faults out.old; now = O.sink_faults out.new } })
         text.now usual result.0 }
 {
-    let bytes = text.as_bytes();
-    if write_all(bytes, out) == bytes.len() {
+    write_bytes(text.as_bytes(), usual, out)
+}
+
+/// The same for a text that is given as its bytes.
+pub fn write_bytes<O: Sink>(text: &[u8], usual: u8, out: &mut O) -> Status
+    ensures { IsWritten (record { before = O.taken out.old; now = O.taken out.new; faults = record { before = O.sink_faults out.old; now = O.sink_faults out.new } })
+        text.now usual result.0 }
+{
+    if write_all(text, out) == text.len() {
         Status(usual)
     } else {
         Status(6)
