@@ -12,7 +12,7 @@ mod tests;
 mod writings;
 
 use folder::FolderExporter;
-use osb_top::run_serial;
+use osb_top::{inspect, run_serial};
 use output::Output;
 use shelf_files::FileShelf;
 use std::io::ErrorKind;
@@ -41,8 +41,13 @@ fn main(rt: HostRuntime) -> ExitCode {
         Err(_) => Vec::new(alloc),
     };
     let mut shelf = FileShelf::new(rt);
-    let mut exporter = FolderExporter::new(rt, EXPORT_ROOT);
     let mut out = Output::new(rt);
-    let status = run_serial(alloc, &words, &mut shelf, &mut exporter, &mut out);
+    let status = match words.first() {
+        Some(word) if word.as_str() == "inspect" => inspect(alloc, &words, &mut shelf, &mut out),
+        _ => {
+            let mut exporter = FolderExporter::new(rt, EXPORT_ROOT);
+            run_serial(alloc, &words, &mut shelf, &mut exporter, &mut out)
+        }
+    };
     ExitCode::from(status.0)
 }
