@@ -2,6 +2,8 @@
 #[derive(Clone, Copy, Debug, PartialEq, Eq)]
 pub enum Kind {
     RunSerial,
+    Inspect,
+    Marks,
     Path,
     Python,
     PythonString,
@@ -14,6 +16,8 @@ impl Kind {
     pub fn read(name: &str) -> Option<Kind> {
         match name {
             "run_serial" => Some(Kind::RunSerial),
+            "inspect" => Some(Kind::Inspect),
+            "marks" => Some(Kind::Marks),
             "path" => Some(Kind::Path),
             "python" => Some(Kind::Python),
             "python string" => Some(Kind::PythonString),
@@ -30,11 +34,12 @@ impl Kind {
 
     fn is_given(self, word: &str) -> bool {
         match self {
-            Kind::RunSerial => {
+            Kind::RunSerial | Kind::Inspect => {
                 matches!(word, "words" | "word" | "file" | "fail" | "room" | "most")
             }
             Kind::Path | Kind::PythonString => word == "text",
             Kind::Python => word == "value",
+            Kind::Marks => matches!(word, "value" | "words" | "word"),
             Kind::Puts => matches!(word, "puts" | "random"),
             Kind::Stage => matches!(word, "puts" | "type" | "options"),
         }

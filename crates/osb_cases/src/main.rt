@@ -5,6 +5,7 @@ mod cases;
 mod differences;
 mod entries;
 mod kinds;
+mod marks;
 mod mistakes;
 mod nodes;
 mod outcomes;

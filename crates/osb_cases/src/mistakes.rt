@@ -46,6 +46,8 @@ pub enum Mistake {
     NotJson,
     #[error("the value is no object")]
     NotAnObject,
+    #[error("the value is no manifest")]
+    NoManifest,
     #[error("this is no object whose calls can fail")]
     UnknownObject,
     #[error("a line of the text is no put")]

@@ -1,6 +1,7 @@
 use crate::cases::Case;
 use crate::entries::Entry;
 use crate::kinds::Kind;
+use crate::marks::marks_answer;
 use crate::mistakes::{CaseFault, Mistake};
 use crate::parts::text_of;
 use crate::{puts, runs, stages};
@@ -22,7 +23,8 @@ pub enum Outcome {
 /// Makes the call of a case.
 pub fn make_call(alloc: Global, case: &Case) -> Result<Outcome, CaseFault> {
     match case.kind {
-        Kind::RunSerial => Ok(Outcome::Run(runs::run_case(alloc, case)?)),
+        Kind::RunSerial | Kind::Inspect => Ok(Outcome::Run(runs::run_case(alloc, case)?)),
+        Kind::Marks => Ok(Outcome::Answer(marks_answer(alloc, case)?)),
         Kind::Path => Ok(Outcome::Answer(path_answer(alloc, case)?)),
         Kind::Python => Ok(Outcome::Answer(python_answer(alloc, case)?)),
         Kind::PythonString => Ok(Outcome::Answer(python_string_answer(alloc, case)?)),

@@ -3,11 +3,12 @@ ghost use Rattle.osb_base.specs.Shelves.{AreFiles};
 
 use crate::cases::Case;
 use crate::entries::Entry;
+use crate::kinds::Kind;
 use crate::mistakes::{CaseFault, Mistake};
 use crate::nodes::op_line;
 use crate::parts::bytes_of;
 use osb_base::{Bytes, MemExporter, MemShelf, MemSink, NoMemory, Op, Text, find_named};
-use osb_top::run_serial;
+use osb_top::{inspect, run_serial};
 use std::alloc::Global;
 
 /// The room of a sink where a case says nothing of it.
@@ -21,7 +22,7 @@ pub struct Run {
     exporter: MemExporter,
 }
 
-/// Runs a case through `run_serial`, over objects in memory.
+/// Runs a case through `run_serial` or `inspect`, over objects in memory.
 pub fn run_case(alloc: Global, case: &Case) -> Result<Run, CaseFault> {
     check_objects(case)?;
     let words = words(alloc, case)?;
@@ -30,7 +31,10 @@ pub fn run_case(alloc: Global, case: &Case) -> Result<Run, CaseFault> {
     let room = case.number("room")?.unwrap_or(ROOM);
     let most = case.number("most")?;
     let mut out = MemSink::new(alloc, room, most, failing(alloc, case, "sink")?)?;
-    let status = run_serial(alloc, &words, &mut shelf, &mut exporter, &mut out);
+    let status = match case.kind {
+        Kind::Inspect => inspect(alloc, &words, &mut shelf, &mut out),
+        _ => run_serial(alloc, &words, &mut shelf, &mut exporter, &mut out),
+    };
     Ok(Run {
         status: status.0,
         out,
@@ -81,7 +85,7 @@ fn list(alloc: Global, done: &[Op], folder: &str) -> Result<Vec<u8>, NoMemory> {
 }
 
 /// The words of the template, or in their place the case's own.
-fn words(alloc: Global, case: &Case) -> Result<Vec<String>, NoMemory> {
+pub fn words(alloc: Global, case: &Case) -> Result<Vec<String>, NoMemory> {
     let mut words = Vec::new(alloc);
     for entry in case.template.iter().chain(case.own.iter()) {
         add_words(alloc, entry, &mut words)?;
