@@ -1,3 +1,5 @@
 pub mod Ancestors
 pub mod Beneath
 pub mod Placing
+pub mod Entries
+pub mod Standing

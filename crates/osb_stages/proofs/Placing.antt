@@ -20,7 +20,7 @@ put_directory_fault-none path (Some node) e = by (is_directory node) refl
     by false d = absurd (true≢false (ap is_some (rw d at e)))
 
 -- where the parent rule holds, a put finds no fault in the parent
-parent_fault-none : (listing : Listing) (path : Names) → parent_rule listing path ≡ None → parent_fault listing path ≡ None
+pub parent_fault-none : (listing : Listing) (path : Names) → parent_rule listing path ≡ None → parent_fault listing path ≡ None
 parent_fault-none listing [] none = refl
 parent_fault-none listing (name ∷ names) none =
     let parent = take (length names) (name ∷ names) in

@@ -1,13 +1,16 @@
 -- Readers of a stage's options. Each gives what a value says, or the first fault with the name of the member at fault.
-use Rattle.std.specs.Prelude.{ℕ, ◌==◌, Bool, List, [], ◌∷◌, nat_le, Option, Some, None, is_some, Result, Ok, Err, IsTrue, if◌then◌else◌}
-use Rattle.std.specs.List.{list_any}
+use Rattle.std.specs.Prelude.{ℕ, ◌==◌, Bool, false, not, ◌&&◌, ◌||◌, List, [], ◌∷◌, length, nat_le, Option, Some, None, is_some, Result, Ok, Err, IsTrue, if◌then◌else◌}
+use Rattle.std.specs.List.{list_all, list_any}
+use Rattle.std.specs.Char.{is_ascii_alphanumeric}
 use Rattle.std.specs.Cmp.Lexicographic.{pointwise}
-use Rattle.serde_json.specs.Data.{Num, unsigned, negative, float, Data, Items, no_items, item, Members, no_members, member}
+use Rattle.serde_json.specs.Data.{Num, unsigned, negative, float, Data, string, Items, no_items, item, Members, no_members, member}
 use Rattle.serde_json.specs.Find.{get, as_bool, as_number, as_str, as_array, as_object}
-use Rattle.osb_tree.specs.Paths.{Names, path_of}
+use Rattle.osb_tree.specs.Paths.{Names, has_byte, path_of}
 use Rattle.osb_tree.specs.declared.faults.PathFault.{PathFault}
 use Rattle.osb_tree.specs.declared.faults.OptionFault.{OptionFault}
 use Rattle.osb_tree.specs.declared.faults.OptionFault.TheVariants.{Missing, WrongKind, OutOfRange, BadPath, UnknownMember}
+use Rattle.osb_stages.specs.declared.owners.Account.{Account}
+use Rattle.osb_stages.specs.declared.owners.Account.TheVariants.{Name, Number}
 
 -- what a reader gives
 abbrev pub Read : Type 0 → Type 0
@@ -44,6 +47,14 @@ optional {A} read absent name options = there (get name options)
     there None = Ok absent
     there (Some value) = read name value
 
+-- a member that may be absent
+abbrev pub if_there : {A : Type 0} → Reader A → List ℕ → Data → Read (Option A)
+if_there {A} read name options = there (get name options)
+  where
+    there : Option Data → Read (Option A)
+    there None = Ok None
+    there (Some value) = read name value >>= λ found. Ok (Some found)
+
 abbrev pub is_among : List (List ℕ) → List ℕ → Bool
 is_among names name = list_any (λ known. pointwise ◌==◌ known name) names
 
@@ -77,6 +88,14 @@ flag name value = of_kind name (as_bool value)
 abbrev pub text : Reader (List ℕ)
 text name value = of_kind name (as_str value)
 
+-- a value that is one of those that may be
+abbrev pub allowed : Bool → List ℕ → Read (Unit {0})
+allowed is_one name = if is_one then Ok tt else Err (OutOfRange name)
+
+-- what a link may point to: 1 to 4,095 bytes without NUL
+abbrev pub is_target : List ℕ → Bool
+is_target text = nat_le 1 (length text) && nat_le (length text) 4095 && not (has_byte 0 text)
+
 -- a whole number from 0 to a last one
 abbrev pub number_to : ℕ → Reader ℕ
 number_to last name value = of_kind name (as_number value) >>= within
@@ -94,6 +113,27 @@ path name value = text name value >>= λ read. as_path (path_of read)
     as_path (Ok names) = Ok names
     as_path (Err fault) = Err (BadPath name)
 
+-- `A-Z a-z 0-9 _`
+abbrev pub is_word_byte : ℕ → Bool
+is_word_byte byte = is_ascii_alphanumeric byte || byte == 95
+
+-- these, `.` and `-`
+abbrev pub is_name_byte : ℕ → Bool
+is_name_byte byte = is_word_byte byte || byte == 46 || byte == 45
+
+-- what an account may be called: 1 to 32 bytes
+abbrev pub is_account_name : List ℕ → Bool
+is_account_name [] = false
+is_account_name (first ∷ rest) = is_word_byte first && nat_le (length rest) 31 && list_all is_name_byte rest
+
+-- an account, by its name or its number
+abbrev pub account : Reader Account
+account name value = by (as_str value)
+  where
+    by : Option (List ℕ) → Read Account
+    by (Some called) = allowed (is_account_name called) name >>= λ _. Ok (Name called)
+    by None = number_to 4294967294 name value >>= λ number. Ok (Number number)
+
 -- a list of objects, each read in turn; where one is no object, the list's member is at fault
 abbrev pub objects : {A : Type 0} → (Data → Read A) → List ℕ → Items → Read (List A)
 objects read name no_items = Ok []
@@ -104,3 +144,25 @@ objects read name (item value items) =
 
 abbrev pub list_of : {A : Type 0} → (Data → Read A) → Reader (List A)
 list_of read name value = of_kind name (as_array value) >>= objects read name
+
+-- the path that the name of a member gives
+abbrev pub path_key : List ℕ → Read Names
+path_key key = path key (string key)
+
+-- a member of an object: first its name is read, then the object that stands there
+abbrev pub entry : {K A : Type 0} → (List ℕ → Read K) → (Data → Read A) → List ℕ → Data → Read (K × A)
+entry read_key read name value =
+    read_key name >>= λ key.
+    (if is_some (as_object value) then read value else Err (WrongKind name)) >>= λ found.
+    Ok (key, found)
+
+-- all of them in their order, which is by name
+abbrev pub entries : {K A : Type 0} → (List ℕ → Read K) → (Data → Read A) → Members → Read (List (K × A))
+entries read_key read no_members = Ok []
+entries read_key read (member name value members) =
+    entry read_key read name value >>= λ first.
+    entries read_key read members >>= λ others.
+    Ok (first ∷ others)
+
+abbrev pub entries_of : {K A : Type 0} → (List ℕ → Read K) → (Data → Read A) → Reader (List (K × A))
+entries_of read_key read name value = of_kind name (as_object value) >>= entries read_key read

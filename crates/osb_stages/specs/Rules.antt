@@ -4,7 +4,7 @@ use Rattle.osb_tree.specs.Paths.{Names, root}
 use Rattle.osb_tree.specs.Nodes.{is_directory}
 use Rattle.osb_tree.specs.Trees.{Listing, node_at, put_at, is_too_large}
 use Rattle.osb_tree.specs.declared.nodes.Node.{Node}
-use Rattle.osb_tree.specs.declared.nodes.Node.TheVariants.{Dir}
+use Rattle.osb_tree.specs.declared.nodes.Node.TheVariants.{Dir, Link}
 use Rattle.osb_tree.specs.declared.faults.StageFault.{StageFault}
 use Rattle.osb_tree.specs.declared.faults.StageFault.TheVariants.{Missing, NotADir, TreeTooLarge}
 
@@ -59,6 +59,10 @@ parent_rule listing path = first_fault listing (ancestors path)
 -- a directory with owners 0
 abbrev pub directory : ℕ → Node
 directory mode = Dir mode 0 0
+
+-- a link with owners 0
+abbrev pub link : List ℕ → Node
+link target = Link 0 0 target
 
 -- a directory above a path that is made: one that is missing is made with mode 0755, and what is no directory is at
 -- fault

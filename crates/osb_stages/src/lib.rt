@@ -3,5 +3,7 @@
 
 pub mod laws;
 pub mod modes;
+pub mod owners;
 pub mod readers;
 pub mod rules;
+pub mod targets;

@@ -1,11 +1,13 @@
 //! Readers of options. Each gives what a value says, or the first fault with the name of the member at fault.
-ghost use Rattle.std.specs.Prelude.{◌≡◌, ◌≢◌, ◌≤◌, Ok, Err, IfOk, map};
-ghost use Rattle.serde_json.specs.Data.{Data};
-ghost use Rattle.serde_json.specs.View.{view, items_view};
-ghost use Rattle.osb_stages.specs.Readers.{Read, required, optional, no_others, is_among, flag, number_to, path, objects, list_of};
+ghost use Rattle.std.specs.Prelude.{◌≡◌, ◌≢◌, ◌≤◌, ℕ, List as Items, Ok, Err, IfOk, map};
+ghost use Rattle.std.specs.List.{list_all};
+ghost use Rattle.serde_json.specs.Data.{Data, string};
+ghost use Rattle.serde_json.specs.View.{view, items_view, members_view};
+ghost use Rattle.osb_stages.specs.Readers.{Read, required, optional, if_there, no_others, is_among, flag, text, number_to, path, is_word_byte, is_name_byte, is_account_name, account, objects, list_of, path_key, entry, entries, entries_of};
 
+use crate::owners::{Account, Owner};
 use osb_tree::{List, OptionFault, Path, PathFault, Text};
-use serde_json::Value;
+use serde_json::{Map, Value};
 use std::alloc::Global;
 
 /// What one object of a list of objects says.
@@ -15,6 +17,33 @@ pub trait Item: Sized + Drop {
 
     fn read(alloc: Global, options: &Value) -> Result<Self, OptionFault>
         ensures item { result ≢ Err OptionFault.NoMemory → result ≡ item_of (view options.now) };
+}
+
+/// What the name of a member of an object says.
+pub trait Key: Sized + Drop {
+    /// What it is read as, or its fault.
+    ghost key_of: { Items ℕ → Read Self };
+
+    fn read(alloc: Global, name: &str) -> Result<Self, OptionFault>
+        ensures key { result ≢ Err OptionFault.NoMemory → result ≡ key_of name.now };
+}
+
+impl Key for Path {
+    ghost key_of = { path_key };
+
+    fn read(alloc: Global, name: &str) -> Result<Self, OptionFault> {
+        path_in(alloc, name, name)
+    }
+}
+
+/// The text that a member has to be.
+pub fn required_text(alloc: Global, name: &str, options: &Value) -> Result<Text, OptionFault>
+    ensures text { result ≢ Err OptionFault.NoMemory → result ≡ required text name.now (view options.now) }
+{
+    match options.get(name) {
+        Some(value) => text(alloc, name, value),
+        None => Err(OptionFault::Missing(Text::new(alloc, name)?)),
+    }
 }
 
 /// The path that a member has to be.
@@ -56,6 +85,34 @@ pub fn optional_flag(
     match options.get(name) {
         Some(value) => flag(alloc, name, value),
         None => Ok(absent),
+    }
+}
+
+/// An account that a member may name or number.
+pub fn optional_account(
+    alloc: Global,
+    name: &str,
+    options: &Value,
+) -> Result<Option<Account>, OptionFault>
+    ensures account { result ≢ Err OptionFault.NoMemory → result ≡ if_there account name.now (view options.now) }
+{
+    match options.get(name) {
+        Some(value) => Ok(Some(account(alloc, name, value)?)),
+        None => Ok(None),
+    }
+}
+
+/// An object that a member has to be, from names that are read as keys to objects that are read as items.
+pub fn required_entries<K: Key, T: Item>(
+    alloc: Global,
+    name: &str,
+    options: &Value,
+) -> Result<List<(K, T)>, OptionFault>
+    ensures entries { result ≢ Err OptionFault.NoMemory → result ≡ required (entries_of K.key_of T.item_of) name.now (view options.now) }
+{
+    match options.get(name) {
+        Some(value) => entries_of(alloc, name, value),
+        None => Err(OptionFault::Missing(Text::new(alloc, name)?)),
     }
 }
 
@@ -108,8 +165,18 @@ fn flag(alloc: Global, name: &str, value: &Value) -> Result<bool, OptionFault>
     }
 }
 
+fn text(alloc: Global, name: &str, value: &Value) -> Result<Text, OptionFault>
+    ensures { result ≢ Err OptionFault.NoMemory → result ≡ text name.now (view value.now) }
+{
+    match value.as_str() {
+        Some(text) => Ok(Text::new(alloc, text)?),
+        None => Err(OptionFault::WrongKind(Text::new(alloc, name)?)),
+    }
+}
+
 fn number_to(alloc: Global, last: u32, name: &str, value: &Value) -> Result<u32, OptionFault>
-    ensures { result ≢ Err OptionFault.NoMemory → result ≡ number_to last name.now (view value.now) }
+    ensures within { IfOk result (λ number. number ≤ last) }
+    ensures number { result ≢ Err OptionFault.NoMemory → result ≡ number_to last name.now (view value.now) }
 {
     if !value.is_number() {
         return Err(OptionFault::WrongKind(Text::new(alloc, name)?));
@@ -126,11 +193,54 @@ fn path(alloc: Global, name: &str, value: &Value) -> Result<Path, OptionFault>
     let Some(text) = value.as_str() else {
         return Err(OptionFault::WrongKind(Text::new(alloc, name)?));
     };
+    path_in(alloc, name, text)
+}
+
+/// The path that a text gives, which a member has or is called.
+fn path_in(alloc: Global, name: &str, text: &str) -> Result<Path, OptionFault>
+    ensures { result ≢ Err OptionFault.NoMemory → result ≡ path name.now (string text.now) }
+{
     match Path::read(alloc, text) {
         Ok(path) => Ok(path),
         Err(PathFault::NoMemory) => Err(OptionFault::NoMemory),
         Err(_) => Err(OptionFault::BadPath(Text::new(alloc, name)?)),
     }
+}
+
+fn account(alloc: Global, name: &str, value: &Value) -> Result<Account, OptionFault>
+    ensures { result ≢ Err OptionFault.NoMemory → result ≡ account name.now (view value.now) }
+{
+    let Some(called) = value.as_str() else {
+        let number = number_to(alloc, 4_294_967_294, name, value)?;
+        return Ok(Account::Number(Owner::new(number)));
+    };
+    if !is_account_name(called.as_bytes()) {
+        return Err(OptionFault::OutOfRange(Text::new(alloc, name)?));
+    }
+    Ok(Account::Name(Text::new(alloc, called)?))
+}
+
+fn is_account_name(name: &[u8]) -> bool
+    ensures { result ≡ is_account_name name.now }
+{
+    match name {
+        [] => false,
+        [first, rest @ ..] => is_word_byte(*first) && rest.len() <= 31 && are_name_bytes(rest),
+    }
+}
+
+fn are_name_bytes(bytes: &[u8]) -> bool
+    ensures { result ≡ list_all is_name_byte bytes.now }
+{
+    bytes
+        .iter()
+        .all(|b| is_word_byte(*b) || *b == b'.' || *b == b'-')
+}
+
+fn is_word_byte(byte: u8) -> bool
+    ensures { result ≡ is_word_byte byte }
+{
+    byte.is_ascii_alphanumeric() || byte == b'_'
 }
 
 fn list<T: Item>(alloc: Global, name: &str, value: &Value) -> Result<List<T>, OptionFault>
@@ -153,4 +263,41 @@ fn objects<T: Item>(alloc: Global, name: &str, values: &[Value]) -> Result<List<
         items.push(T::read(alloc, value)?)?;
     }
     Ok(List::new(items))
+}
+
+fn entries_of<K: Key, T: Item>(
+    alloc: Global,
+    name: &str,
+    value: &Value,
+) -> Result<List<(K, T)>, OptionFault>
+    ensures { result ≢ Err OptionFault.NoMemory → result ≡ entries_of K.key_of T.item_of name.now (view value.now) }
+{
+    match value.as_object() {
+        Some(members) => entries(alloc, members),
+        None => Err(OptionFault::WrongKind(Text::new(alloc, name)?)),
+    }
+}
+
+fn entries<K: Key, T: Item>(
+    alloc: Global,
+    members: &Map<String, Value>,
+) -> Result<List<(K, T)>, OptionFault>
+    ensures { result ≢ Err OptionFault.NoMemory → result ≡ entries K.key_of T.item_of (members_view members.now.entries) }
+{
+    let mut items = Vec::new(alloc);
+    for (name, value) in members.iter() {
+        items.push(entry(alloc, name.as_str(), value)?)?;
+    }
+    Ok(List::new(items))
+}
+
+fn entry<K: Key, T: Item>(alloc: Global, name: &str, value: &Value) -> Result<(K, T), OptionFault>
+    ensures { result ≢ Err OptionFault.NoMemory → result ≡ entry K.key_of T.item_of name.now (view value.now) }
+{
+    let key = K::read(alloc, name)?;
+    if value.is_object() {
+        Ok((key, T::read(alloc, value)?))
+    } else {
+        Err(OptionFault::WrongKind(Text::new(alloc, name)?))
+    }
 }
