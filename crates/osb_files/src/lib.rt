@@ -2,6 +2,11 @@
 //! stage does to a tree.
 #![tactic(auto)]
 
+mod attributes;
+pub mod chmod;
+pub mod chown;
+pub mod copy;
 pub mod error;
 pub mod mkdir;
 pub mod noop;
+pub mod symlink;

@@ -1,0 +1,136 @@
+-- Numbers of accounts: that they are owners, and that giving attributes changes none.
+use Rattle.std.proofs.Common.{◌≡◌, ◌≢◌, ℕ, ◌+◌, ◌<◌, List, [], ◌∷◌, length, drop, get_or, Bool, true, false, not, ◌&&◌, ◌||◌, ◌==◌, cond, Option, Some, None, is_some, Ok, Err, is_ok, is_eq, suc, add-one, refl, sym, ◌∙◌, ap, true≢false}
+use Rattle.std.specs.Prelude.{Result}
+use Rattle.std.proofs.Math.Seq.{drop-cons}
+use Rattle.std.proofs.lemmas.Bool.{and_parts, leb-true}
+use Rattle.osb_tree.specs.Paths.{Names, path_cmp}
+use Rattle.osb_tree.specs.Nodes.{IsOwner}
+use Rattle.osb_tree.specs.Trees.{Listing, node_at}
+use Rattle.osb_tree.specs.Accounts.{lines_of, fields_of, field_at, value_of, is_account_number, field_count, has_numbers, is_account_line, is_line_of, bad_line_from, bad_line, number_in as number_of_line, number_of}
+use Rattle.osb_tree.specs.declared.nodes.Node.{Node}
+use Rattle.osb_tree.specs.declared.nodes.Node.TheVariants.{Dir, File, Link}
+use Rattle.osb_tree.specs.declared.accounts.AccountFile.{AccountFile}
+use Rattle.osb_tree.specs.declared.accounts.AccountFile.TheVariants.{Passwd, Group, Shadow}
+use Rattle.osb_tree.specs.declared.faults.StageFault.{StageFault}
+use Rattle.osb_stages.specs.Rules.{Effect, and_then, in_order}
+use Rattle.osb_stages.specs.declared.owners.Account.{Account}
+use Rattle.osb_stages.specs.declared.owners.Account.TheVariants.{Name, Number}
+use Rattle.osb_files.specs.Attributes.{with_attributes, is_covered, with_attributes_at}
+use Rattle.osb_files.specs.Chown.{number_at, owner, given_owner, owners, with_owners}
+use Rattle.osb_files.specs.declared.attributes.Attributes.{Attributes}
+use Rattle.osb_files.specs.declared.chown.Change.{Change}
+
+-- ---- what an account file lists
+
+number-in_range : (field : List ℕ) → is_account_number field ≡ true → IsOwner (value_of field)
+number-in_range field h = leb-true (value_of field) 4294967294 (and_parts _ _ h).1
+
+has_numbers-number : (file : AccountFile) (line : List ℕ) → file ≢ Shadow → has_numbers file line ≡ true → is_account_number (field_at 2 line) ≡ true
+has_numbers-number Passwd line other h = (and_parts _ _ h).0
+has_numbers-number Group line other h = h
+has_numbers-number Shadow line other h = absurd (other refl)
+
+line-number : (file : AccountFile) (name line : List ℕ) → file ≢ Shadow → is_account_line file line ≡ true → is_line_of name line ≡ true → IsOwner (value_of (field_at 2 line))
+line-number file name line other formed named = by (length line == 0) formed (and_parts _ _ named).0
+  where
+    by : (empty : Bool) → (empty || (length (fields_of line) == field_count file && has_numbers file line)) ≡ true → not empty ≡ true → IsOwner (value_of (field_at 2 line))
+    by true formed some = absurd (true≢false (sym some))
+    by false formed some = number-in_range (field_at 2 line) (has_numbers-number file line other (and_parts _ _ formed).1)
+
+lines-number : (file : AccountFile) (count : ℕ) (name : List ℕ) (lines : List (List ℕ)) (number : ℕ) → file ≢ Shadow → bad_line_from file count lines ≡ None → number_of_line name lines ≡ Some number → IsOwner number
+lines-number file count name [] number other none e = absurd (true≢false (ap is_some (sym e)))
+lines-number file count name (line ∷ lines) number other none e = by (is_account_line file line) refl (is_line_of name line) refl none e (lines-number file (count + 1) name lines number other)
+  where
+    by : (formed : Bool) → is_account_line file line ≡ formed → (named : Bool) → is_line_of name line ≡ named → cond formed (bad_line_from file (count + 1) lines) (Some count) ≡ None → cond named (Some (value_of (field_at 2 line))) (number_of_line name lines) ≡ Some number
+        → (bad_line_from file (count + 1) lines ≡ None → number_of_line name lines ≡ Some number → IsOwner number) → IsOwner number
+    by false f named n none e later = absurd (true≢false (ap is_some none))
+    by true f true n none e later =
+        let same : value_of (field_at 2 line) ≡ number = cc in
+        rw (← same) (line-number file name line other f n)
+    by true f false n none e later = later none e
+
+pub IsOwner-found : (file : AccountFile) (name bytes : List ℕ) (number : ℕ) → file ≢ Shadow → None ≡ bad_line file bytes → Some number ≡ number_of name bytes → IsOwner number
+IsOwner-found file name bytes number other none e = lines-number file 1 name (lines_of bytes) number other (sym none) (sym e)
+
+-- ---- accounts after attributes were given
+
+number_at-node : (file : AccountFile) (name : List ℕ) (given : Attributes) (b : Bool) (node : Node) → number_at file name (Some (cond b (with_attributes given node) node)) ≡ number_at file name (Some node)
+number_at-node file name given false node = refl
+number_at-node file name given true (Dir mode uid gid) = refl
+number_at-node file name given true (File mode uid gid bytes) = refl
+number_at-node file name given true (Link uid gid target) = refl
+
+number_at-given : (file : AccountFile) (name : List ℕ) (t : Names → Bool) (given : Attributes) (listing : Listing) (path : Names) → number_at file name (node_at (with_attributes_at t given listing) path) ≡ number_at file name (node_at listing path)
+number_at-given file name t given [] path = refl
+number_at-given file name t given (entry ∷ entries) path = by (is_eq (path_cmp path entry.0)) (number_at-given file name t given entries path)
+  where
+    by : (b : Bool) → number_at file name (node_at (with_attributes_at t given entries) path) ≡ number_at file name (node_at entries path)
+        → number_at file name (cond b (Some (cond (t entry.0) (with_attributes given entry.1) entry.1)) (node_at (with_attributes_at t given entries) path)) ≡ number_at file name (cond b (Some entry.1) (node_at entries path))
+    by true later = number_at-node file name given (t entry.0) entry.1
+    by false later = later
+
+owner-given : (file : AccountFile) (t : Names → Bool) (given : Attributes) (listing : Listing) (account : Account) → owner file (with_attributes_at t given listing) account ≡ owner file listing account
+owner-given file t given listing (Name name) = number_at-given file name t given listing _
+owner-given file t given listing (Number number) = refl
+
+given_owner-given : (file : AccountFile) (t : Names → Bool) (given : Attributes) (listing : Listing) (account : Option Account) → given_owner file (with_attributes_at t given listing) account ≡ given_owner file listing account
+given_owner-given file t given listing None = refl
+given_owner-given file t given listing (Some account) = rw (owner-given file t given listing account) refl
+
+owners-given : (t : Names → Bool) (given : Attributes) (listing : Listing) (change : Change) → owners (with_attributes_at t given listing) change ≡ owners listing change
+owners-given t given listing change = rw (given_owner-given Passwd t given listing change.user, given_owner-given Group t given listing change.group) refl
+
+-- a tree that gives owners as another does
+pub record IsAlike (listing other : Listing) : Type 0 where
+  pub owners : (change : Change) → owners listing change ≡ owners other change
+
+pub IsAlike-itself : (listing : Listing) → IsAlike listing listing
+IsAlike-itself listing = record { owners = λ change. refl }
+
+abbrev given_at : Names × Change → Listing → Result Attributes StageFault → Effect
+given_at item listing (Ok given) = Ok (with_attributes_at (is_covered item.0 item.1.recursive) given listing)
+given_at item listing (Err fault) = Err fault
+
+with_owners-standing : (accounts : Listing) (item : Names × Change) (listing : Listing) (node : Node) (given : Result Attributes StageFault) → node_at listing item.0 ≡ Some node → owners accounts item.1 ≡ given
+    → with_owners accounts item listing ≡ given_at item listing given
+with_owners-standing accounts item listing node (Ok given) found is = rw (found, is) refl
+with_owners-standing accounts item listing node (Err fault) found is = rw (found, is) refl
+
+-- and so it does after owners were given
+pub IsAlike-next : (accounts other : Listing) (item : Names × Change) (listing after : Listing) → IsAlike listing other → with_owners accounts item listing ≡ Ok after → IsAlike after other
+IsAlike-next accounts other item listing after alike e = by (node_at listing item.0) refl
+  where
+    not_ok : {P : Type 0} (fault : StageFault) → Err fault ≡ Ok after → P
+    not_ok fault e = absurd (true≢false (sym (ap is_ok e)))
+
+    from : (given : Result Attributes StageFault) → given_at item listing given ≡ Ok after → IsAlike after other
+    from (Ok given) g =
+        let is : with_attributes_at (is_covered item.0 item.1.recursive) given listing ≡ after = cc in
+        record { owners = λ change. ap (λ l. owners l change) (sym is) ∙ owners-given (is_covered item.0 item.1.recursive) given listing change ∙ alike.owners change }
+    from (Err fault) g = not_ok fault g
+
+    by : (found : Option Node) → node_at listing item.0 ≡ found → IsAlike after other
+    by None f = not_ok _ (rw f at e)
+    by (Some node) f = from (owners accounts item.1) (sym (with_owners-standing accounts item listing node (owners accounts item.1) f refl) ∙ e)
+
+pub with_owners-alike : (listing other : Listing) (item : Names × Change) (tree : Listing) → IsAlike listing other → with_owners listing item tree ≡ with_owners other item tree
+with_owners-alike listing other item tree alike = by (node_at tree item.0) refl
+  where
+    by : (found : Option Node) → node_at tree item.0 ≡ found → with_owners listing item tree ≡ with_owners other item tree
+    by None f = rw f refl
+    by (Some node) f = with_owners-standing listing item tree node (owners other item.1) f (alike.owners item.1) ∙ sym (with_owners-standing other item tree node (owners other item.1) f refl)
+
+-- ---- the next of some items
+
+next-item : {A : Type 0} (effect : A → Listing → Effect) (items : List A) (i : ℕ) (item : A) (listing : Listing) → i < length items → item ≡ get_or items i item → in_order effect (drop i items) listing ≡ in_order effect (item ∷ drop (i + 1) items) listing
+next-item effect items i item listing within is =
+    let next : drop i items ≡ item ∷ drop (i + 1) items = rw add-one (drop-cons items i item within ∙ ap (λ first. first ∷ drop (suc i) items) (sym is)) in
+    ap (λ rest. in_order effect rest listing) next
+
+pub next-fault : {A : Type 0} (effect : A → Listing → Effect) (items : List A) (i : ℕ) (item : A) (listing : Listing) (fault : StageFault) → i < length items → item ≡ get_or items i item → effect item listing ≡ Err fault → in_order effect (drop i items) listing ≡ Err fault
+next-fault effect items i item listing fault within is e =
+    next-item effect items i item listing within is ∙ ap (and_then (in_order effect (drop (i + 1) items))) e
+
+pub next-ok : {A : Type 0} (effect : A → Listing → Effect) (items : List A) (i : ℕ) (item : A) (listing after : Listing) → i < length items → item ≡ get_or items i item → effect item listing ≡ Ok after → in_order effect (drop (i + 1) items) after ≡ in_order effect (drop i items) listing
+next-ok effect items i item listing after within is e =
+    sym (next-item effect items i item listing within is ∙ ap (and_then (in_order effect (drop (i + 1) items))) e)
