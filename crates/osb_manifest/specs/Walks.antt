@@ -43,8 +43,7 @@ pub data Object : Type 0 where
 -- types of stages that are known, and not read yet
 abbrev pub later_types : List (List ℕ)
 later_types =
-    codes "org.osbuild.copy" ∷ codes "org.osbuild.symlink" ∷ codes "org.osbuild.chmod" ∷ codes "org.osbuild.chown"
-    ∷ codes "org.osbuild.groups" ∷ codes "org.osbuild.users" ∷ codes "org.osbuild.hostname" ∷ codes "org.osbuild.locale"
+    codes "org.osbuild.groups" ∷ codes "org.osbuild.users" ∷ codes "org.osbuild.hostname" ∷ codes "org.osbuild.locale"
     ∷ codes "org.osbuild.timezone" ∷ codes "org.osbuild.keymap" ∷ codes "org.osbuild.machine-id" ∷ []
 
 unfoldable pub is_later_type : List ℕ → Bool

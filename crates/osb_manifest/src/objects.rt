@@ -20,11 +20,7 @@ pub enum Object<'a> {
 }
 
 /// Types of stages that are known, and not read yet.
-static LATER_TYPES: [&str; 11] = [
-    "org.osbuild.copy",
-    "org.osbuild.symlink",
-    "org.osbuild.chmod",
-    "org.osbuild.chown",
+static LATER_TYPES: [&str; 7] = [
     "org.osbuild.groups",
     "org.osbuild.users",
     "org.osbuild.hostname",

@@ -10,8 +10,12 @@ use Rattle.osb_stages.specs.Rules.{Effect}
 use Rattle.osb_files.specs.Noop.{noop_options, noop}
 use Rattle.osb_files.specs.Error.{error_options, error}
 use Rattle.osb_files.specs.Mkdir.{mkdir_options, mkdir}
+use Rattle.osb_files.specs.Copy.{copy_options, copy}
+use Rattle.osb_files.specs.Symlink.{symlink_options, symlink}
+use Rattle.osb_files.specs.Chmod.{chmod_options, chmod}
+use Rattle.osb_files.specs.Chown.{chown_options, chown}
 use Rattle.osb_recipe.specs.declared.kinds.StageKind.{StageKind}
-use Rattle.osb_recipe.specs.declared.kinds.StageKind.TheVariants.{Noop, Error, Mkdir}
+use Rattle.osb_recipe.specs.declared.kinds.StageKind.TheVariants.{Noop, Error, Mkdir, Copy, Symlink, Chmod, Chown}
 use Rattle.osb_recipe.specs.declared.kinds.KindFault.{KindFault}
 use Rattle.osb_recipe.specs.declared.kinds.KindFault.TheVariants.{UnknownStage, Options}
 
@@ -19,6 +23,10 @@ abbrev pub type_text : StageKind → List ℕ
 type_text (Noop options) = codes "org.osbuild.noop"
 type_text (Error options) = codes "org.osbuild.error"
 type_text (Mkdir options) = codes "org.osbuild.mkdir"
+type_text (Copy options) = codes "org.osbuild.copy"
+type_text (Symlink options) = codes "org.osbuild.symlink"
+type_text (Chmod options) = codes "org.osbuild.chmod"
+type_text (Chown options) = codes "org.osbuild.chown"
 
 -- a kind with its options, or why they are refused
 abbrev pub with_options : {A : Type 0} → (A → StageKind) → Result A OptionFault → Result StageKind KindFault
@@ -34,6 +42,10 @@ kind_of stage options =
     if is_type (codes "org.osbuild.noop") stage then with_options Noop (noop_options options)
     else if is_type (codes "org.osbuild.error") stage then with_options Error (error_options options)
     else if is_type (codes "org.osbuild.mkdir") stage then with_options Mkdir (mkdir_options options)
+    else if is_type (codes "org.osbuild.copy") stage then with_options Copy (copy_options options)
+    else if is_type (codes "org.osbuild.symlink") stage then with_options Symlink (symlink_options options)
+    else if is_type (codes "org.osbuild.chmod") stage then with_options Chmod (chmod_options options)
+    else if is_type (codes "org.osbuild.chown") stage then with_options Chown (chown_options options)
     else Err UnknownStage
 
 -- what a stage does to a tree
@@ -41,3 +53,7 @@ abbrev pub effect : StageKind → Inputs → Listing → Effect
 effect (Noop options) inputs listing = noop options listing
 effect (Error options) inputs listing = error options listing
 effect (Mkdir options) inputs listing = mkdir options listing
+effect (Copy options) inputs listing = copy options inputs listing
+effect (Symlink options) inputs listing = symlink options listing
+effect (Chmod options) inputs listing = chmod options listing
+effect (Chown options) inputs listing = chown options listing

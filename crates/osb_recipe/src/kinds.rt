@@ -3,7 +3,7 @@ ghost use Rattle.serde_json.specs.View.{view};
 ghost use Rattle.osb_stages.specs.Readers.{IsObject};
 ghost use Rattle.osb_recipe.specs.Kinds.{type_text, kind_of, effect};
 
-use osb_files::{error, mkdir, noop};
+use osb_files::{chmod, chown, copy, error, mkdir, noop, symlink};
 use osb_tree::{Inputs, OptionFault, StageFault, Tree};
 use serde_json::Value;
 use std::alloc::Global;
@@ -17,6 +17,14 @@ pub enum StageKind {
     Error(error::Options),
     /// Makes directories.
     Mkdir(mkdir::Options),
+    /// Copies files and trees from inputs.
+    Copy(copy::Options),
+    /// Makes links.
+    Symlink(symlink::Options),
+    /// Gives modes.
+    Chmod(chmod::Options),
+    /// Gives owners.
+    Chown(chown::Options),
 }
 
 /// Why a type and options are no stage.
@@ -48,6 +56,22 @@ impl StageKind {
                 Ok(options) => Ok(StageKind::Mkdir(options)),
                 Err(fault) => Err(options_fault(fault)),
             },
+            "org.osbuild.copy" => match copy::read_options(alloc, options) {
+                Ok(options) => Ok(StageKind::Copy(options)),
+                Err(fault) => Err(options_fault(fault)),
+            },
+            "org.osbuild.symlink" => match symlink::read_options(alloc, options) {
+                Ok(options) => Ok(StageKind::Symlink(options)),
+                Err(fault) => Err(options_fault(fault)),
+            },
+            "org.osbuild.chmod" => match chmod::read_options(alloc, options) {
+                Ok(options) => Ok(StageKind::Chmod(options)),
+                Err(fault) => Err(options_fault(fault)),
+            },
+            "org.osbuild.chown" => match chown::read_options(alloc, options) {
+                Ok(options) => Ok(StageKind::Chown(options)),
+                Err(fault) => Err(options_fault(fault)),
+            },
             _ => Err(KindFault::UnknownStage),
         }
     }
@@ -60,6 +84,10 @@ impl StageKind {
             StageKind::Noop(_) => "org.osbuild.noop",
             StageKind::Error(_) => "org.osbuild.error",
             StageKind::Mkdir(_) => "org.osbuild.mkdir",
+            StageKind::Copy(_) => "org.osbuild.copy",
+            StageKind::Symlink(_) => "org.osbuild.symlink",
+            StageKind::Chmod(_) => "org.osbuild.chmod",
+            StageKind::Chown(_) => "org.osbuild.chown",
         }
     }
 
@@ -71,6 +99,10 @@ impl StageKind {
             StageKind::Noop(options) => noop::apply(alloc, options, tree, inputs),
             StageKind::Error(options) => error::apply(alloc, options, tree, inputs),
             StageKind::Mkdir(options) => mkdir::apply(alloc, options, tree, inputs),
+            StageKind::Copy(options) => copy::apply(alloc, options, tree, inputs),
+            StageKind::Symlink(options) => symlink::apply(alloc, options, tree, inputs),
+            StageKind::Chmod(options) => chmod::apply(alloc, options, tree, inputs),
+            StageKind::Chown(options) => chown::apply(alloc, options, tree, inputs),
         }
     }
 }
