@@ -105,7 +105,10 @@ impl Reader {
 }
 
 fn takes_block(word: &str) -> bool {
-    matches!(word, "file" | "part" | "text" | "value" | "puts" | "due")
+    matches!(
+        word,
+        "file" | "part" | "text" | "value" | "puts" | "input" | "content" | "options" | "due"
+    )
 }
 
 fn entry_of(alloc: Global, line: usize, content: &str) -> Result<Entry, NoMemory> {
@@ -124,7 +127,7 @@ fn entry_of(alloc: Global, line: usize, content: &str) -> Result<Entry, NoMemory
 
 fn name_and_rest<'a>(word: &str, rest: &'a str) -> (&'a str, &'a str) {
     match word {
-        "file" | "fail" | "part" | "due" => first_word(rest),
+        "file" | "fail" | "part" | "input" | "content" | "due" => first_word(rest),
         _ => ("", rest),
     }
 }

@@ -41,7 +41,7 @@ impl Kind {
             Kind::Python => word == "value",
             Kind::Marks => matches!(word, "value" | "words" | "word"),
             Kind::Puts => matches!(word, "puts" | "random"),
-            Kind::Stage => matches!(word, "puts" | "type" | "options"),
+            Kind::Stage => { matches!(word, "puts" | "content" | "input" | "type" | "options") }
         }
     }
 }

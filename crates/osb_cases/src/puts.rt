@@ -50,6 +50,17 @@ pub fn tree_of(alloc: Global, case: &Case) -> Result<Tree, CaseFault> {
     Ok(make_puts(alloc, case)?.tree)
 }
 
+/// The tree after the puts that a text lists.
+pub fn listed_tree(alloc: Global, text: &str, line: usize) -> Result<Tree, CaseFault> {
+    let mut puts = Vec::new(alloc);
+    add_listed(alloc, text, line, &mut puts)?;
+    let mut tree = Tree::empty(alloc)?;
+    for put in puts {
+        put_into(alloc, put, &mut tree)?;
+    }
+    Ok(tree)
+}
+
 impl AfterPuts {
     /// What came at a section, and `None` where puts have no such section.
     pub fn section(

@@ -2,11 +2,11 @@ use crate::cases::Case;
 use crate::entries::Entry;
 use crate::mistakes::{CaseFault, Mistake};
 use crate::nodes::node_line;
-use crate::parts::text_of;
-use crate::puts::tree_of;
-use osb_base::NoMemory;
+use crate::parts::{bytes_of, text_of};
+use crate::puts::{answer_of, listed_tree, read_path, tree_of};
+use osb_base::{Bytes, NoMemory, Text};
 use osb_recipe::{KindFault, StageKind};
-use osb_tree::{Inputs, List, OptionFault, Path, StageFault, Tree};
+use osb_tree::{Inputs, List, Node, OptionFault, Path, Shared, StageFault, Tree};
 use serde_json::Value;
 use std::alloc::{AllocError, Global};
 
@@ -30,18 +30,76 @@ pub fn run_stage(alloc: Global, case: &Case) -> Result<StageRun, CaseFault> {
         return Err(Mistake::NotAnObject.at(entry.line));
     }
     match StageKind::read(alloc, stage.as_str(), &options) {
-        Ok(kind) => applied(alloc, &kind, tree_of(alloc, case)?),
+        Ok(kind) => applied(alloc, &kind, tree(alloc, case)?, &inputs(alloc, case)?),
         Err(KindFault::UnknownStage) => answered(String::from_str(alloc, "unknown stage")?),
         Err(KindFault::Options(fault)) => answered(option_words(alloc, &fault)?),
         Err(KindFault::NoMemory) => Err(CaseFault::NoMemory(AllocError)),
     }
 }
 
-fn applied(alloc: Global, kind: &StageKind, tree: Tree) -> Result<StageRun, CaseFault> {
-    let inputs = Inputs {
-        trees: List::new(Vec::new(alloc)),
+/// The tree after the case's puts, with its files of some content.
+fn tree(alloc: Global, case: &Case) -> Result<Tree, CaseFault> {
+    let mut tree = tree_of(alloc, case)?;
+    for entry in case.template.iter().chain(case.own.iter()) {
+        if entry.word.as_str() == "content" {
+            put_content(alloc, case, entry, &mut tree)?;
+        }
+    }
+    Ok(tree)
+}
+
+fn put_content(
+    alloc: Global,
+    case: &Case,
+    entry: &Entry,
+    tree: &mut Tree,
+) -> Result<(), CaseFault> {
+    let path = read_path(alloc, entry.name.as_str(), entry.line)?;
+    let node = Node::File {
+        mode: 0o644,
+        uid: 0,
+        gid: 0,
+        bytes: Bytes::new(bytes_of(alloc, case, entry)?),
     };
-    match kind.apply(alloc, tree, &inputs) {
+    answer_of(tree.put(alloc, path, node))?;
+    Ok(())
+}
+
+/// The trees that the stage reads beside its own.
+fn inputs(alloc: Global, case: &Case) -> Result<Inputs, CaseFault> {
+    let mut trees = Vec::new(alloc);
+    for entry in case.template.iter().chain(case.own.iter()) {
+        if entry.word.as_str() == "input" {
+            add_input(alloc, case, entry, &mut trees)?;
+        }
+    }
+    Ok(Inputs {
+        trees: List::new(trees),
+    })
+}
+
+fn add_input(
+    alloc: Global,
+    case: &Case,
+    entry: &Entry,
+    trees: &mut Vec<(Text, Shared<Tree>)>,
+) -> Result<(), CaseFault> {
+    let text = text_of(alloc, case, entry)?;
+    let tree = listed_tree(alloc, text.as_str(), entry.line)?;
+    trees.push((
+        Text::new(alloc, entry.name.as_str())?,
+        Shared::new(alloc, tree)?,
+    ))?;
+    Ok(())
+}
+
+fn applied(
+    alloc: Global,
+    kind: &StageKind,
+    tree: Tree,
+    inputs: &Inputs,
+) -> Result<StageRun, CaseFault> {
+    match kind.apply(alloc, tree, inputs) {
         Ok(tree) => Ok(StageRun {
             answer: String::from_str(alloc, "ok")?,
             tree: Some(tree),
