@@ -1,11 +1,18 @@
 -- Account files: lines of fields, as passwd(5), group(5) and shadow(5) have them.
-use Rattle.std.specs.Prelude.{ℕ, ◌+◌, ◌==◌, Bool, true, not, ◌&&◌, ◌||◌, List, [], ◌∷◌, length, nat_le, unwrap_or, Option, Some, None, if◌then◌else◌}
+use Rattle.std.specs.Prelude.{ℕ, ◌+◌, ◌==◌, Bool, true, not, ◌&&◌, ◌||◌, List, [], ◌∷◌, length, codes, nat_le, unwrap_or, Option, Some, None, if◌then◌else◌}
 use Rattle.std.specs.List.{list_all, slice_split, slice_get}
 use Rattle.std.specs.Char.{is_ascii_digit}
 use Rattle.std.specs.Str.Parse.{digits_value}
 use Rattle.std.specs.Cmp.Lexicographic.{pointwise}
+use Rattle.osb_tree.specs.Paths.{Names}
 use Rattle.osb_tree.specs.declared.accounts.AccountFile.{AccountFile}
 use Rattle.osb_tree.specs.declared.accounts.AccountFile.TheVariants.{Passwd, Group, Shadow}
+
+-- where a tree has it
+abbrev pub account_path : AccountFile → Names
+account_path Passwd = codes "etc" ∷ codes "passwd" ∷ []
+account_path Group = codes "etc" ∷ codes "group" ∷ []
+account_path Shadow = codes "etc" ∷ codes "shadow" ∷ []
 
 -- what stands between line feeds
 abbrev pub lines_of : List ℕ → List (List ℕ)

@@ -1,8 +1,12 @@
 //! Account files: lines of fields, as a system lists its users and groups.
-ghost use Rattle.std.specs.Prelude.{◌≡◌, ◌≢◌, ◌≤◌, ◌+◌, None, Some, length, IsTrue, if◌then◌else◌};
+ghost use Rattle.std.specs.Prelude.{◌≡◌, ◌≢◌, ◌≤◌, ◌+◌, None, Some, length, IfOk, IfSome, IsTrue, if◌then◌else◌};
 ghost use Rattle.std.specs.List.{list_all};
 ghost use Rattle.std.specs.Char.{is_ascii_digit};
-ghost use Rattle.osb_tree.specs.Accounts.{fields_of, field_at, value_of, is_account_number, field_count, has_numbers, is_account_line, is_line_of, bad_line, number_of};
+ghost use Rattle.osb_tree.specs.Accounts.{fields_of, field_at, value_of, is_account_number, field_count, has_numbers, is_account_line, is_line_of, bad_line, number_of, account_path};
+ghost use Rattle.osb_tree.specs.Nodes.{IsOwner};
+
+use crate::{NoMemory, Path, PathFault};
+use std::alloc::{AllocError, Global};
 
 /// What an account file lists: users, groups, or the passwords of users.
 #[derive(Clone, Copy, Debug, PartialEq, Eq)]
@@ -10,6 +14,24 @@ pub enum AccountFile {
     Passwd,
     Group,
     Shadow,
+}
+
+impl AccountFile {
+    /// Where a tree has it: `/etc/passwd`, `/etc/group`, `/etc/shadow`.
+    pub fn path(self, alloc: Global) -> Result<Path, NoMemory>
+        ensures path { IfOk result (λ path. path ≡ account_path self) }
+    {
+        let text = match self {
+            AccountFile::Passwd => "/etc/passwd",
+            AccountFile::Group => "/etc/group",
+            AccountFile::Shadow => "/etc/shadow",
+        };
+        match Path::read(alloc, text) {
+            Ok(path) => Ok(path),
+            Err(PathFault::NoMemory) => Err(AllocError),
+            Err(_) => unreachable!(),
+        }
+    }
 }
 
 /// The number of the first line, from 1, that has not the form of the file's lines. Empty lines are passed over.
@@ -27,6 +49,7 @@ pub fn account_find(file: AccountFile, bytes: &[u8], name: &str) -> Option<u32>
     requires numbered { file ≢ AccountFile.Shadow }
     requires checked { bad_line file bytes.now ≡ None }
     ensures number { result ≡ number_of name.now bytes.now }
+    ensures owner { IfSome result IsOwner }
 {
     let line = bytes
         .split(|b| *b == b'\n')
@@ -81,9 +104,10 @@ fn is_account_number(field: &[u8]) -> bool
     account_number(field).is_some()
 }
 
-/// The number that a field gives, where it is one.
-fn account_number(field: &[u8]) -> Option<u32>
-    ensures { result ≡ (if is_account_number field.now then Some (value_of field.now) else None) }
+/// The number that a field gives, where it is one: 1 to 10 decimal digits, up to the greatest owner.
+pub fn account_number(field: &[u8]) -> Option<u32>
+    ensures number { result ≡ (if is_account_number field.now then Some (value_of field.now) else None) }
+    ensures owner { IfSome result IsOwner }
 {
     if field.is_empty() || field.len() > 10 || !are_digits(field) {
         return None;

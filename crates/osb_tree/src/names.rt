@@ -26,9 +26,9 @@ impl Model for Name {
 }
 
 impl Name {
-    pub(crate) fn new(alloc: Global, text: &str) -> Result<Self, NoMemory>
+    pub fn new(alloc: Global, text: &str) -> Result<Self, NoMemory>
         requires { IsTrue (is_name text.now) }
-        ensures { IfOk result (λ name. name ≡ text.now) }
+        ensures text { IfOk result (λ name. name ≡ text.now) }
     {
         Ok(Name {
             text: String::from_str(alloc, text)?,

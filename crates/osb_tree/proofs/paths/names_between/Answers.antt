@@ -16,7 +16,7 @@ pub loop-piece-preserved-in_ok-push : goal.loop-piece-preserved-in_ok-push
 loop-piece-preserved-in_ok-push c =
     let turn = YieldsList-turn (YieldsList-from_str_split 47 c.args.text.now (lit< tt) (cc) (cc) (cc)) c.loop-piece.yielded _ c.loop-piece.yielded_by _ _ c.in-Some.piece c.in-Some.is c.next.ensures.steps in
     let more = nonempty_more _ _ _ _ turn (length_push c.loop-piece.yielded c.in-Some.piece) (sym c.if-not-is_empty.ensures) in
-    (tt, tt, rw (more, ← c.loop-piece.invariant.2, ← c.in_ok-new.ensures) c.in_ok-push.ensures.items)
+    (tt, tt, rw (more, ← c.loop-piece.invariant.2, ← c.in_ok-new.ensures.text) c.in_ok-push.ensures.items)
 
 pub loop-piece-preserved : goal.loop-piece-preserved
 loop-piece-preserved c =
