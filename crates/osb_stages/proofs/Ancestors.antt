@@ -251,7 +251,7 @@ node_at-in_order (path ∷ paths) listing after q all e =
 pub parent_rule-with_ancestors : (listing after : Listing) (path : Names) → with_ancestors path listing ≡ Ok after → parent_rule after path ≡ None
 parent_rule-with_ancestors listing after path e = first_fault-in_order (ancestors path) listing after e
 
-node_at-with_ancestors : (listing after : Listing) (path : Names) → with_ancestors path listing ≡ Ok after → node_at after path ≡ node_at listing path
+pub node_at-with_ancestors : (listing after : Listing) (path : Names) → with_ancestors path listing ≡ Ok after → node_at after path ≡ node_at listing path
 node_at-with_ancestors listing after path e = node_at-in_order (ancestors path) listing after path (shorter-ancestors path) e
 
 -- ---- a parent made after all above it

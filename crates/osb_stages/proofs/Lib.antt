@@ -3,3 +3,4 @@ pub mod Beneath
 pub mod Placing
 pub mod Entries
 pub mod Standing
+pub mod Found

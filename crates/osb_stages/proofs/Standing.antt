@@ -1,5 +1,5 @@
 -- What stands beneath a path: nothing, where nothing stands at the path.
-use Rattle.std.proofs.Common.{◌≡◌, ℕ, ◌==◌, ◌++◌, List, [], ◌∷◌, length, Bool, true, false, not, ◌&&◌, ◌||◌, Option, Some, None, is_some, refl, sym, ◌∙◌, ap, subst, append_assoc, true≢false, arith}
+use Rattle.std.proofs.Common.{◌≡◌, ℕ, ◌==◌, ◌++◌, List, [], ◌∷◌, length, Bool, true, false, not, cond, ◌&&◌, ◌||◌, Option, Some, None, is_some, refl, sym, ◌∙◌, ap, subst, append_assoc, true≢false, arith}
 use Rattle.std.specs.Prelude.{IsSome, IsTrue, IsFalse}
 use Rattle.std.specs.Option.{option_map_or}
 use Rattle.std.specs.Cmp.Lexicographic.{pointwise, same_text}
@@ -11,6 +11,8 @@ use Rattle.osb_tree.specs.Trees.{Listing, IsTree, node_at, is_directory_at, has_
 use Rattle.osb_tree.specs.declared.nodes.Node.{Node}
 use Rattle.osb_tree.proofs.PathOrder.{is_beneath-no_longer}
 use Rattle.osb_tree.proofs.NextPaths.{next_after-is_least_above, has_beneath-next_after}
+use Rattle.osb_tree.specs.declared.faults.StageFault.TheVariants.{NotAFile}
+use Rattle.osb_stages.specs.Rules.{leaf_fault}
 use Rattle.osb_stages.proofs.Ancestors.{directory-there}
 
 -- what lies beneath a path begins with it
@@ -78,3 +80,22 @@ pub takes_over-no_directory : (listing : Listing) (path : Names) (node : Node) �
 takes_over-no_directory listing [] node tree found none = absurd (true≢false (sym tree.rooted ∙ directory_at-found listing [] node found ∙ none))
 takes_over-no_directory listing (name ∷ path) node tree found none =
     rw (has_beneath-no_directory listing (name ∷ path) tree (directory_at-found listing (name ∷ path) node found ∙ none)) (grind arith)
+
+-- a leaf takes the place of nothing else
+pub takes_over-leaf : (listing : Listing) (path : Names) (node : Node) → IsTree listing → leaf_fault path (node_at listing path) ≡ None → IsFalse (takes_over listing path node)
+takes_over-leaf listing path node tree none = by (node_at listing path) refl none
+  where
+    no_directory : (there : Node) → leaf_fault path (Some there) ≡ None → is_directory there ≡ false
+    no_directory there e = from (is_directory there) e
+      where
+        from : (b : Bool) → cond b (Some (NotAFile path)) None ≡ None → b ≡ false
+        from true e = absurd (true≢false (ap is_some e))
+        from false e = refl
+
+    and_false : (b c : Bool) → c ≡ false → (b && c) ≡ false
+    and_false true c e = e
+    and_false false c e = refl
+
+    by : (found : Option Node) → node_at listing path ≡ found → leaf_fault path found ≡ None → IsFalse (takes_over listing path node)
+    by None is e = takes_over-nothing listing path node tree is
+    by (Some there) is e = and_false (not (is_directory node)) (length path == 0 || has_beneath listing path) (takes_over-no_directory listing path there tree is (no_directory there e))

@@ -1,7 +1,6 @@
 -- Readers of a stage's options. Each gives what a value says, or the first fault with the name of the member at fault.
-use Rattle.std.specs.Prelude.{ℕ, ◌==◌, Bool, false, not, ◌&&◌, ◌||◌, List, [], ◌∷◌, length, nat_le, Option, Some, None, is_some, Result, Ok, Err, IsTrue, if◌then◌else◌}
-use Rattle.std.specs.List.{list_all, list_any}
-use Rattle.std.specs.Char.{is_ascii_alphanumeric}
+use Rattle.std.specs.Prelude.{ℕ, ◌==◌, Bool, not, ◌&&◌, List, [], ◌∷◌, length, nat_le, Option, Some, None, is_some, Result, Ok, Err, IsTrue, if◌then◌else◌}
+use Rattle.std.specs.List.{list_any}
 use Rattle.std.specs.Cmp.Lexicographic.{pointwise}
 use Rattle.serde_json.specs.Data.{Num, unsigned, negative, float, Data, string, Items, no_items, item, Members, no_members, member}
 use Rattle.serde_json.specs.Find.{get, as_bool, as_number, as_str, as_array, as_object}
@@ -9,6 +8,7 @@ use Rattle.osb_tree.specs.Paths.{Names, has_byte, path_of}
 use Rattle.osb_tree.specs.declared.faults.PathFault.{PathFault}
 use Rattle.osb_tree.specs.declared.faults.OptionFault.{OptionFault}
 use Rattle.osb_tree.specs.declared.faults.OptionFault.TheVariants.{Missing, WrongKind, OutOfRange, BadPath, UnknownMember}
+use Rattle.osb_stages.specs.Names.{is_account_name}
 use Rattle.osb_stages.specs.declared.owners.Account.{Account}
 use Rattle.osb_stages.specs.declared.owners.Account.TheVariants.{Name, Number}
 
@@ -20,9 +20,9 @@ Read A = Result A OptionFault
 abbrev pub Reader : Type 0 → Type 0
 Reader A = List ℕ → Data → Read A
 
--- the first fault, or what comes next with what was read
+-- the first fault, or what comes next with what was found
 infixr 10 ◌>>=◌
-abbrev pub ◌>>=◌ : {A B : Type 0} → Read A → (A → Read B) → Read B
+abbrev pub ◌>>=◌ : {A B F : Type 0} → Result A F → (A → Result B F) → Result B F
 (Ok value) >>= next = next value
 (Err fault) >>= next = Err fault
 
@@ -113,19 +113,6 @@ path name value = text name value >>= λ read. as_path (path_of read)
     as_path (Ok names) = Ok names
     as_path (Err fault) = Err (BadPath name)
 
--- `A-Z a-z 0-9 _`
-abbrev pub is_word_byte : ℕ → Bool
-is_word_byte byte = is_ascii_alphanumeric byte || byte == 95
-
--- these, `.` and `-`
-abbrev pub is_name_byte : ℕ → Bool
-is_name_byte byte = is_word_byte byte || byte == 46 || byte == 45
-
--- what an account may be called: 1 to 32 bytes
-abbrev pub is_account_name : List ℕ → Bool
-is_account_name [] = false
-is_account_name (first ∷ rest) = is_word_byte first && nat_le (length rest) 31 && list_all is_name_byte rest
-
 -- an account, by its name or its number
 abbrev pub account : Reader Account
 account name value = by (as_str value)
@@ -133,6 +120,25 @@ account name value = by (as_str value)
     by : Option (List ℕ) → Read Account
     by (Some called) = allowed (is_account_name called) name >>= λ _. Ok (Name called)
     by None = number_to 4294967294 name value >>= λ number. Ok (Number number)
+
+-- the name of an account
+abbrev pub account_name : Reader (List ℕ)
+account_name name value = text name value >>= λ called. allowed (is_account_name called) name >>= λ _. Ok called
+
+-- the name of a member, as that of an account
+abbrev pub account_key : List ℕ → Read (List ℕ)
+account_key key = account_name key (string key)
+
+-- the values of a list, each read in turn; where one is at fault, that is the list's member
+abbrev pub values : {A : Type 0} → Reader A → List ℕ → Items → Read (List A)
+values read name no_items = Ok []
+values read name (item value items) =
+    read name value >>= λ first.
+    values read name items >>= λ others.
+    Ok (first ∷ others)
+
+abbrev pub values_of : {A : Type 0} → Reader A → Reader (List A)
+values_of read name value = of_kind name (as_array value) >>= values read name
 
 -- a list of objects, each read in turn; where one is no object, the list's member is at fault
 abbrev pub objects : {A : Type 0} → (Data → Read A) → List ℕ → Items → Read (List A)

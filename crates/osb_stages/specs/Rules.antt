@@ -6,21 +6,21 @@ use Rattle.osb_tree.specs.Trees.{Listing, node_at, put_at, is_too_large}
 use Rattle.osb_tree.specs.declared.nodes.Node.{Node}
 use Rattle.osb_tree.specs.declared.nodes.Node.TheVariants.{Dir, Link}
 use Rattle.osb_tree.specs.declared.faults.StageFault.{StageFault}
-use Rattle.osb_tree.specs.declared.faults.StageFault.TheVariants.{Missing, NotADir, TreeTooLarge}
+use Rattle.osb_tree.specs.declared.faults.StageFault.TheVariants.{Missing, NotADir, NotAFile, TreeTooLarge}
 
 -- what a stage makes of a tree
 abbrev pub Effect : Type 0
 Effect = Result Listing StageFault
 
 -- an effect after another, which may have had a fault
-abbrev pub and_then : {F : Type 0} → (Listing → Result Listing F) → Result Listing F → Result Listing F
-and_then effect (Ok listing) = effect listing
+abbrev pub and_then : {S F : Type 0} → (S → Result S F) → Result S F → Result S F
+and_then effect (Ok state) = effect state
 and_then effect (Err fault) = Err fault
 
 -- the effects of items in order, up to the first fault
-abbrev pub in_order : {A : Type 0} → (A → Listing → Effect) → List A → Listing → Effect
-in_order effect [] listing = Ok listing
-in_order effect (item ∷ items) listing = and_then (in_order effect items) (effect item listing)
+abbrev pub in_order : {A S F : Type 0} → (A → S → Result S F) → List A → S → Result S F
+in_order effect [] state = Ok state
+in_order effect (item ∷ items) state = and_then (in_order effect items) (effect item state)
 
 -- a fault, or else what follows
 abbrev pub unless : Option StageFault → Effect → Effect
@@ -55,6 +55,17 @@ first_fault listing (path ∷ paths) = or_else (directory_fault path (node_at li
 -- the parent rule: every path above one that is made has to be a directory
 abbrev pub parent_rule : Listing → Names → Option StageFault
 parent_rule listing path = first_fault listing (ancestors path)
+
+-- ---- files and links
+
+-- a directory makes no room for what holds nothing
+abbrev pub leaf_fault : Names → Option Node → Option StageFault
+leaf_fault path None = None
+leaf_fault path (Some node) = if is_directory node then Some (NotAFile path) else None
+
+-- the write rule: under the parent rule a file or a link comes where nothing stands, or in place of a file or a link
+abbrev pub with_leaf : Names → Node → Listing → Effect
+with_leaf path node listing = unless (parent_rule listing path) (unless (leaf_fault path (node_at listing path)) (placed path node listing))
 
 -- a directory with owners 0
 abbrev pub directory : ℕ → Node

@@ -2,6 +2,7 @@
 #![tactic(auto)]
 
 pub mod laws;
+pub mod members;
 pub mod modes;
 pub mod owners;
 pub mod readers;

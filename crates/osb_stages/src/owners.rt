@@ -1,6 +1,8 @@
-ghost use Rattle.std.specs.Prelude.{◌≡◌};
+ghost use Rattle.std.specs.Prelude.{◌≡◌, Some, None, IsTrue, if◌then◌else◌};
 ghost use Rattle.osb_tree.specs.Nodes.{IsOwner};
+ghost use Rattle.osb_stages.specs.Names.{is_account_name};
 
+use crate::readers::is_account_name;
 use osb_tree::Text;
 use std::marker::Model;
 
@@ -44,4 +46,41 @@ impl Owner {
 pub enum Account {
     Name(Text),
     Number(Owner),
+}
+
+/// What a user or a group may be called, 1 to 32 bytes, which contracts see.
+#[derive(Debug, Drop)]
+pub struct AccountName {
+    text: Text,
+}
+
+impl Model for AccountName {
+    ghost use Rattle.std.specs.Prelude.{ℕ, List, IsTrue};
+    ghost use Rattle.osb_stages.specs.Names.{is_account_name};
+
+    ghost Value = { List ℕ };
+
+    ghost view = { λ n. n.text };
+
+    ghost invariant = { λ n. IsTrue (is_account_name n.text) };
+}
+
+impl AccountName {
+    /// The text, where an account may be called so: a letter, a digit or `_`, and then up to 31 of these, `.` and `-`.
+    pub fn new(text: Text) -> Option<Self>
+        ensures name { result ≡ (if is_account_name text then Some text else None) }
+    {
+        if is_account_name(text.as_str().as_bytes()) {
+            Some(AccountName { text })
+        } else {
+            None
+        }
+    }
+
+    pub fn as_str(&self) -> &str
+        ensures name { result.now ≡ self.now }
+        ensures account_name { IsTrue (is_account_name self.now) }
+    {
+        self.text.as_str()
+    }
 }

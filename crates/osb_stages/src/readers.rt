@@ -3,7 +3,8 @@ ghost use Rattle.std.specs.Prelude.{◌≡◌, ◌≢◌, ◌≤◌, ℕ, List a
 ghost use Rattle.std.specs.List.{list_all};
 ghost use Rattle.serde_json.specs.Data.{Data, string};
 ghost use Rattle.serde_json.specs.View.{view, items_view, members_view};
-ghost use Rattle.osb_stages.specs.Readers.{Read, required, optional, if_there, no_others, is_among, flag, text, number_to, path, is_word_byte, is_name_byte, is_account_name, account, objects, list_of, path_key, entry, entries, entries_of};
+ghost use Rattle.osb_stages.specs.Names.{is_word_byte, is_name_byte, is_account_name};
+ghost use Rattle.osb_stages.specs.Readers.{Read, required, optional, if_there, no_others, is_among, flag, text, number_to, path, account, objects, list_of, path_key, entry, entries, entries_of};
 
 use crate::owners::{Account, Owner};
 use osb_tree::{List, OptionFault, Path, PathFault, Text};
@@ -165,7 +166,7 @@ fn flag(alloc: Global, name: &str, value: &Value) -> Result<bool, OptionFault>
     }
 }
 
-fn text(alloc: Global, name: &str, value: &Value) -> Result<Text, OptionFault>
+pub fn text(alloc: Global, name: &str, value: &Value) -> Result<Text, OptionFault>
     ensures { result ≢ Err OptionFault.NoMemory → result ≡ text name.now (view value.now) }
 {
     match value.as_str() {
@@ -174,7 +175,12 @@ fn text(alloc: Global, name: &str, value: &Value) -> Result<Text, OptionFault>
     }
 }
 
-fn number_to(alloc: Global, last: u32, name: &str, value: &Value) -> Result<u32, OptionFault>
+pub(crate) fn number_to(
+    alloc: Global,
+    last: u32,
+    name: &str,
+    value: &Value,
+) -> Result<u32, OptionFault>
     ensures within { IfOk result (λ number. number ≤ last) }
     ensures number { result ≢ Err OptionFault.NoMemory → result ≡ number_to last name.now (view value.now) }
 {
@@ -187,7 +193,7 @@ fn number_to(alloc: Global, last: u32, name: &str, value: &Value) -> Result<u32,
     }
 }
 
-fn path(alloc: Global, name: &str, value: &Value) -> Result<Path, OptionFault>
+pub fn path(alloc: Global, name: &str, value: &Value) -> Result<Path, OptionFault>
     ensures { result ≢ Err OptionFault.NoMemory → result ≡ path name.now (view value.now) }
 {
     let Some(text) = value.as_str() else {
@@ -220,7 +226,7 @@ fn account(alloc: Global, name: &str, value: &Value) -> Result<Account, OptionFa
     Ok(Account::Name(Text::new(alloc, called)?))
 }
 
-fn is_account_name(name: &[u8]) -> bool
+pub(crate) fn is_account_name(name: &[u8]) -> bool
     ensures { result ≡ is_account_name name.now }
 {
     match name {

@@ -2,8 +2,8 @@
 //! none then.
 ghost use Rattle.std.specs.Prelude.{◌≡◌, ◌≢◌, Ok, Err, Some, None, IfErr, OnOk, IsFalse};
 ghost use Rattle.osb_tree.specs.Nodes.{InRange};
-ghost use Rattle.osb_tree.specs.Trees.{takes_over};
-ghost use Rattle.osb_stages.specs.Rules.{placed, parent_rule, unless, with_ancestors, directory};
+ghost use Rattle.osb_tree.specs.Trees.{IsTree, node_at, takes_over};
+ghost use Rattle.osb_stages.specs.Rules.{placed, parent_rule, unless, leaf_fault, with_leaf, with_ancestors, directory};
 
 use crate::modes::Mode;
 use osb_tree::places::is_directory;
@@ -50,6 +50,29 @@ pub fn make(alloc: Global, path: &Path, node: Node, tree: &mut Tree) -> Result<(
 {
     check_ancestors(alloc, path, tree)?;
     place(alloc, path, node, tree)
+}
+
+/// Puts a file or a link at a path under the write rule: it takes the place of no directory.
+pub fn put_leaf(alloc: Global, path: &Path, node: Node, tree: &mut Tree) -> Result<(), StageFault>
+    requires in_range { InRange node }
+    ensures ok { OnOk result (with_leaf path.now node tree.old ≡ Ok tree.new) }
+    ensures fault { IfErr result (λ fault. fault ≢ StageFault.NoMemory → with_leaf path.now node tree.old ≡ Err fault) }
+{
+    check_ancestors(alloc, path, tree)?;
+    check_leaf(path, tree)?;
+    place(alloc, path, node, tree)
+}
+
+/// Finds a directory where a file or a link is to come.
+fn check_leaf(path: &Path, tree: &Tree) -> Result<(), StageFault>
+    ensures ok { OnOk result (leaf_fault path.now (node_at tree.now path.now) ≡ None) }
+    ensures fault { IfErr result (λ fault. fault ≢ StageFault.NoMemory → leaf_fault path.now (node_at tree.now path.now) ≡ Some fault) }
+    ensures tree { IsTree tree.now }
+{
+    match tree.get(path) {
+        Some(node) if is_directory(node) => Err(StageFault::NotAFile(path.clone()?)),
+        _ => Ok(()),
+    }
 }
 
 /// Puts a node at a path that stands in directories.
