@@ -1,16 +1,13 @@
--- Numbers of accounts: that they are owners, and that giving attributes changes none.
-use Rattle.std.proofs.Common.{◌≡◌, ◌≢◌, ℕ, ◌+◌, ◌<◌, List, [], ◌∷◌, length, drop, get_or, Bool, true, false, not, ◌&&◌, ◌||◌, ◌==◌, cond, Option, Some, None, is_some, Ok, Err, is_ok, is_eq, suc, add-one, refl, sym, ◌∙◌, ap, true≢false}
+-- Numbers of accounts: giving attributes changes none.
+use Rattle.std.proofs.Common.{◌≡◌, ℕ, ◌+◌, ◌<◌, List, [], ◌∷◌, length, drop, get_or, Bool, true, false, cond, Option, Some, None, Ok, Err, is_ok, is_eq, suc, add-one, refl, sym, ◌∙◌, ap, true≢false}
 use Rattle.std.specs.Prelude.{Result}
 use Rattle.std.proofs.Math.Seq.{drop-cons}
-use Rattle.std.proofs.lemmas.Bool.{and_parts, leb-true}
 use Rattle.osb_tree.specs.Paths.{Names, path_cmp}
-use Rattle.osb_tree.specs.Nodes.{IsOwner}
 use Rattle.osb_tree.specs.Trees.{Listing, node_at}
-use Rattle.osb_tree.specs.Accounts.{lines_of, fields_of, field_at, value_of, is_account_number, field_count, has_numbers, is_account_line, is_line_of, bad_line_from, bad_line, number_in as number_of_line, number_of}
 use Rattle.osb_tree.specs.declared.nodes.Node.{Node}
 use Rattle.osb_tree.specs.declared.nodes.Node.TheVariants.{Dir, File, Link}
 use Rattle.osb_tree.specs.declared.accounts.AccountFile.{AccountFile}
-use Rattle.osb_tree.specs.declared.accounts.AccountFile.TheVariants.{Passwd, Group, Shadow}
+use Rattle.osb_tree.specs.declared.accounts.AccountFile.TheVariants.{Passwd, Group}
 use Rattle.osb_tree.specs.declared.faults.StageFault.{StageFault}
 use Rattle.osb_stages.specs.Rules.{Effect, and_then, in_order}
 use Rattle.osb_stages.specs.declared.owners.Account.{Account}
@@ -19,38 +16,6 @@ use Rattle.osb_files.specs.Attributes.{with_attributes, is_covered, with_attribu
 use Rattle.osb_files.specs.Chown.{number_at, owner, given_owner, owners, with_owners}
 use Rattle.osb_files.specs.declared.attributes.Attributes.{Attributes}
 use Rattle.osb_files.specs.declared.chown.Change.{Change}
-
--- ---- what an account file lists
-
-number-in_range : (field : List ℕ) → is_account_number field ≡ true → IsOwner (value_of field)
-number-in_range field h = leb-true (value_of field) 4294967294 (and_parts _ _ h).1
-
-has_numbers-number : (file : AccountFile) (line : List ℕ) → file ≢ Shadow → has_numbers file line ≡ true → is_account_number (field_at 2 line) ≡ true
-has_numbers-number Passwd line other h = (and_parts _ _ h).0
-has_numbers-number Group line other h = h
-has_numbers-number Shadow line other h = absurd (other refl)
-
-line-number : (file : AccountFile) (name line : List ℕ) → file ≢ Shadow → is_account_line file line ≡ true → is_line_of name line ≡ true → IsOwner (value_of (field_at 2 line))
-line-number file name line other formed named = by (length line == 0) formed (and_parts _ _ named).0
-  where
-    by : (empty : Bool) → (empty || (length (fields_of line) == field_count file && has_numbers file line)) ≡ true → not empty ≡ true → IsOwner (value_of (field_at 2 line))
-    by true formed some = absurd (true≢false (sym some))
-    by false formed some = number-in_range (field_at 2 line) (has_numbers-number file line other (and_parts _ _ formed).1)
-
-lines-number : (file : AccountFile) (count : ℕ) (name : List ℕ) (lines : List (List ℕ)) (number : ℕ) → file ≢ Shadow → bad_line_from file count lines ≡ None → number_of_line name lines ≡ Some number → IsOwner number
-lines-number file count name [] number other none e = absurd (true≢false (ap is_some (sym e)))
-lines-number file count name (line ∷ lines) number other none e = by (is_account_line file line) refl (is_line_of name line) refl none e (lines-number file (count + 1) name lines number other)
-  where
-    by : (formed : Bool) → is_account_line file line ≡ formed → (named : Bool) → is_line_of name line ≡ named → cond formed (bad_line_from file (count + 1) lines) (Some count) ≡ None → cond named (Some (value_of (field_at 2 line))) (number_of_line name lines) ≡ Some number
-        → (bad_line_from file (count + 1) lines ≡ None → number_of_line name lines ≡ Some number → IsOwner number) → IsOwner number
-    by false f named n none e later = absurd (true≢false (ap is_some none))
-    by true f true n none e later =
-        let same : value_of (field_at 2 line) ≡ number = cc in
-        rw (← same) (line-number file name line other f n)
-    by true f false n none e later = later none e
-
-pub IsOwner-found : (file : AccountFile) (name bytes : List ℕ) (number : ℕ) → file ≢ Shadow → None ≡ bad_line file bytes → Some number ≡ number_of name bytes → IsOwner number
-IsOwner-found file name bytes number other none e = lines-number file 1 name (lines_of bytes) number other (sym none) (sym e)
 
 -- ---- accounts after attributes were given
 

@@ -4,7 +4,7 @@ use Rattle.std.specs.Prelude.{⊤}
 use Rattle.std.specs.Ordering.{match_ordering}
 use Rattle.std.specs.List.{AllByRecursion}
 use Rattle.std.specs.List.Sorted.{IsStrictlySortedBy}
-use Rattle.std.specs.Map.{keys_of, values_of}
+use Rattle.std.specs.Map.{keys_of}
 use Rattle.std.specs.BTreeMap.{is_at}
 use Rattle.std.specs.Cmp.Lexicographic.{lists_ties, texts_ties}
 use Rattle.std.proofs.lemmas.Bool.{cond-true, false_from_ne_true, and_parts, or_from}
@@ -242,19 +242,6 @@ to_come-fewer listing path after next given node tree is found =
     (paths_after-falls after next listing (next-less listing path after next tree is) (ap is_some found))
 
 -- ---- no put of attributes has a fault
-
-in_range-at : (listing : Listing) (path : Names) (node : Node) → AllByRecursion InRange (values_of listing) → node_at listing path ≡ Some node → InRange node
-in_range-at [] path node all found = absurd (true≢false (ap is_some (sym found)))
-in_range-at (entry ∷ entries) path node all found = by (is_eq (path_cmp path entry.0)) found (in_range-at entries path node all.1)
-  where
-    by : (b : Bool) → cond b (Some entry.1) (node_at entries path) ≡ Some node → (node_at entries path ≡ Some node → InRange node) → InRange node
-    by true f later =
-        let same : entry.1 ≡ node = cc in
-        subst InRange same all.0
-    by false f later = later f
-
-pub InRange-found : (listing : Listing) (path : Names) (node : Node) → IsTree listing → Some node ≡ node_at listing path → InRange node
-InRange-found listing path node tree found = in_range-at listing path node tree.nodes (sym found)
 
 same-kind : (given : Attributes) (node : Node) → is_directory (with_attributes given node) ≡ is_directory node
 same-kind given (Dir mode uid gid) = refl

@@ -3,11 +3,11 @@ use Rattle.std.specs.Prelude.{ℕ, false, List, [], ◌∷◌, codes, Option, So
 use Rattle.serde_json.specs.Data.{Data}
 use Rattle.osb_tree.specs.Paths.{Names}
 use Rattle.osb_tree.specs.Trees.{Listing, node_at}
-use Rattle.osb_tree.specs.Accounts.{bad_line, number_of}
+use Rattle.osb_tree.specs.Accounts.{account_path, bad_line, number_of}
 use Rattle.osb_tree.specs.declared.nodes.Node.{Node}
 use Rattle.osb_tree.specs.declared.nodes.Node.TheVariants.{Dir, File, Link}
 use Rattle.osb_tree.specs.declared.accounts.AccountFile.{AccountFile}
-use Rattle.osb_tree.specs.declared.accounts.AccountFile.TheVariants.{Passwd, Group, Shadow}
+use Rattle.osb_tree.specs.declared.accounts.AccountFile.TheVariants.{Passwd, Group}
 use Rattle.osb_tree.specs.declared.faults.StageFault.{StageFault}
 use Rattle.osb_tree.specs.declared.faults.StageFault.TheVariants.{Missing as NoPath, NotAFile, BadLine, NoAccount}
 use Rattle.osb_tree.specs.declared.faults.OptionFault.TheVariants.{Missing}
@@ -43,12 +43,6 @@ chown_options options =
     Ok (record { items = items })
 
 -- ---- numbers of accounts
-
--- where a tree lists its accounts
-abbrev pub account_path : AccountFile → Names
-account_path Passwd = codes "etc" ∷ codes "passwd" ∷ []
-account_path Group = codes "etc" ∷ codes "group" ∷ []
-account_path Shadow = codes "etc" ∷ codes "shadow" ∷ []
 
 -- the number of a name, where all lines have their form
 abbrev pub number_in : AccountFile → List ℕ → List ℕ → Result ℕ StageFault

@@ -2,7 +2,8 @@
 ghost use Rattle.std.specs.Prelude.{◌≡◌, ◌≢◌, Ok, Err, IfOk, IfErr, OnOk};
 ghost use Rattle.serde_json.specs.View.{view};
 ghost use Rattle.osb_stages.specs.Readers.{IsObject};
-ghost use Rattle.osb_files.specs.Chown.{some_owner, chown_change, chown_options, account_path, number_in, number_at, owner, given_owner, owners, with_owners, chown};
+ghost use Rattle.osb_files.specs.Chown.{some_owner, chown_change, chown_options, number_in, number_at, owner, given_owner, owners, with_owners, chown};
+ghost use Rattle.osb_tree.specs.Accounts.{account_path};
 ghost use Rattle.osb_tree.specs.Trees.{node_at};
 
 use crate::attributes::{Attributes, give};
@@ -10,11 +11,9 @@ use osb_stages::owners::{Account, Owner};
 use osb_stages::readers;
 use osb_stages::readers::{no_others, optional_account, optional_flag, required_entries};
 use osb_tree::accounts::{AccountFile, account_check, account_find};
-use osb_tree::{
-    Inputs, List, NoMemory, Node, OptionFault, Path, PathFault, StageFault, Text, Tree,
-};
+use osb_tree::{Inputs, List, Node, OptionFault, Path, StageFault, Text, Tree};
 use serde_json::Value;
-use std::alloc::{AllocError, Global};
+use std::alloc::Global;
 
 /// What a path gets.
 #[derive(Debug, Drop)]
@@ -126,7 +125,7 @@ fn owner(
 {
     match account {
         Account::Name(name) => {
-            let path = account_path(alloc, file)?;
+            let path = file.path(alloc)?;
             number_at(alloc, file, name, path, tree)
         }
         Account::Number(owner) => Ok(*owner),
@@ -169,21 +168,5 @@ fn number_in(
     match account_find(file, bytes, name.as_str()) {
         Some(number) => Ok(Owner::new(number)),
         None => Err(StageFault::NoAccount(name.clone()?)),
-    }
-}
-
-/// Where a tree lists the accounts.
-fn account_path(alloc: Global, file: AccountFile) -> Result<Path, NoMemory>
-    ensures { IfOk result (λ path. path ≡ account_path file) }
-{
-    let text = match file {
-        AccountFile::Passwd => "/etc/passwd",
-        AccountFile::Group => "/etc/group",
-        AccountFile::Shadow => "/etc/shadow",
-    };
-    match Path::read(alloc, text) {
-        Ok(path) => Ok(path),
-        Err(PathFault::NoMemory) => Err(AllocError),
-        Err(_) => unreachable!(),
     }
 }

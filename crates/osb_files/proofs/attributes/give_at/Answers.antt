@@ -1,4 +1,5 @@
-use Rattle.osb_files.proofs.Giving.{InRange-found, IsTree-given, no_fault-given}
+use Rattle.osb_stages.proofs.Found.{InRange-found}
+use Rattle.osb_files.proofs.Giving.{IsTree-given, no_fault-given}
 use Rattle.osb_files.proofs.attributes.give_at.Goals as goal
 
 pub with_attributes-requires : goal.with_attributes-requires
