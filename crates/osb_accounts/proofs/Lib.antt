@@ -1,0 +1,9 @@
+pub mod Free
+pub mod Parts
+pub mod Places
+pub mod Written
+pub mod Keeping
+pub mod StepsKept
+pub mod FirstFaults
+pub mod TreesKept
+pub mod WholeKept

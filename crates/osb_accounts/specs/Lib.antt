@@ -1,0 +1,9 @@
+pub mod Lines
+pub mod Files
+pub mod Groups
+pub mod UserOptions
+pub mod Homes
+pub mod Users
+pub mod Agreement
+pub mod Kept
+pub mod FaultOrder
