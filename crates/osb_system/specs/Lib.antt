@@ -1,0 +1,7 @@
+pub mod Settings
+pub mod Zones
+pub mod Hostname
+pub mod Locale
+pub mod Timezone
+pub mod Keymap
+pub mod MachineId
