@@ -9,7 +9,7 @@ use Rattle.osb_shape.specs.Values.{is_object, there_is, list_of, list_in, list_a
 use Rattle.osb_shape.specs.Numbers.{bad_numbers}
 use Rattle.osb_shape.specs.Places.{place_text, pipeline_place, stage_place}
 use Rattle.osb_shape.specs.Shapes.{Row, Shape, may_have, must_have, top_shape, pipeline_shape, stage_shape, are_objects, is_broken_at, is_broken, broken_names, offending}
-use Rattle.osb_manifest.specs.Walks.{options_of, stage_kind, Object, at_top, at_pipeline, at_stage, at_later_stage, is_later_stage, stage_objects, pipeline_objects, in_order, objects, is_unknown, faults_of, applies, everywhere, all_conditions, refusals_of}
+use Rattle.osb_manifest.specs.Walks.{options_of, stage_kind, Object, at_top, at_pipeline, at_stage, stage_objects, pipeline_objects, in_order, objects, is_unknown, faults_of, applies, everywhere, all_conditions, refusals_of}
 use Rattle.osb_manifest.specs.Right.{IsRightStage, IsRightPipeline}
 use Rattle.osb_shape.specs.declared.shapes.Form.TheVariants as forms
 use Rattle.osb_manifest.specs.declared.manifests.Refusal.TheVariants as refusals
@@ -87,22 +87,16 @@ module _ (whole : Data) where
   clean_right : (xs ys : List Object) → IsClean (xs ++ ys) → IsClean ys
   clean_right xs ys h condition = nothing_right (flat_map (applies whole condition) xs) _ (sym (flat_map-append (applies whole condition) xs ys) ∙ h condition)
 
-  -- a stage that is read
-  stage_read : (later : Bool) (i j : ℕ) (stage : Data) → IsClean ((if later then at_later_stage i j else at_stage i j stage) ∷ []) → (later ≡ false) × ((condition : Condition) → applies whole condition (at_stage i j stage) ≡ [])
-  stage_read true i j stage h = let some = clean_first (at_later_stage i j) [] h conditions.NotYetRead in cc
-  stage_read false i j stage h = (refl, clean_first (at_stage i j stage) [] h)
-
   right_stage : (i j : ℕ) (stage : Data) → is_object stage ≡ true → IsClean (stage_objects i j stage) → IsRightStage stage
   right_stage i j stage is h =
-      let r = stage_read (is_later_stage stage) i j stage h in
-      let rows = rows_hold stage_shape stage is (none-from_map (refusals.Member (place_text (stage_place i j))) (offending stage_shape stage) (r.1 conditions.WrongMember)) in
+      let r = clean_first (at_stage i j stage) [] h in
+      let rows = rows_hold stage_shape stage is (none-from_map (refusals.Member (place_text (stage_place i j))) (offending stage_shape stage) (r conditions.WrongMember)) in
       record {
         typed = text_in (codes "type") (get (codes "type") stage) rows.0;
-        read_now = r.0;
-        whole = none-from_map _ (bad_numbers (options_of stage)) (r.1 conditions.BadNumber);
-        known = not-from_when (is_unknown (stage_kind stage)) _ (r.1 conditions.UnknownStage);
-        taken = none-from_map _ (faults_of (stage_kind stage)) (r.1 conditions.WrongOptions);
-        alone = not-from_when (has_members_at (codes "inputs") stage) _ (r.1 conditions.NotYetRead);
+        whole = none-from_map _ (bad_numbers (options_of stage)) (r conditions.BadNumber);
+        known = not-from_when (is_unknown (stage_kind stage)) _ (r conditions.UnknownStage);
+        taken = none-from_map _ (faults_of (stage_kind stage)) (r conditions.WrongOptions);
+        alone = not-from_when (has_members_at (codes "inputs") stage) _ (r conditions.NotYetRead);
       }
 
   right_stages : (i j : ℕ) (stages : List Data) → AreObjects stages → IsClean (in_order (stage_objects i) j stages) → AllByRecursion IsRightStage stages

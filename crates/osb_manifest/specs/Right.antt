@@ -5,13 +5,12 @@ use Rattle.serde_json.specs.Data.{Data}
 use Rattle.osb_shape.specs.Forms.{is_pipeline_name}
 use Rattle.osb_shape.specs.Values.{there_is, text_at, list_at, has_members_at}
 use Rattle.osb_shape.specs.Numbers.{bad_numbers}
-use Rattle.osb_manifest.specs.Walks.{name_of, options_of, stage_kind, is_later_stage, is_unknown, faults_of}
+use Rattle.osb_manifest.specs.Walks.{name_of, options_of, stage_kind, is_unknown, faults_of}
 use Rattle.osb_manifest.specs.declared.manifests.Manifest.{Manifest}
 
--- a stage has a type that is known and read, takes its options, and has no inputs
+-- a stage has a type that is known, takes its options, and has no inputs
 pub record IsRightStage (stage : Data) : Type 0 where
   pub typed : IsSome (text_at (codes "type") stage)
-  pub read_now : is_later_stage stage ≡ false
   pub whole : bad_numbers (options_of stage) ≡ []
   pub known : is_unknown (stage_kind stage) ≡ false
   pub taken : faults_of (stage_kind stage) ≡ []

@@ -1,6 +1,6 @@
 -- What the code's objects stand for.
 use Rattle.serde_json.specs.View.{view}
-use Rattle.osb_manifest.specs.Walks.{Object, at_top, at_pipeline, at_stage, at_later_stage}
+use Rattle.osb_manifest.specs.Walks.{Object, at_top, at_pipeline, at_stage}
 use Rattle.osb_manifest.specs.declared.objects.Object.{Object as SeenObject}
 use Rattle.osb_manifest.specs.declared.objects.Object.TheVariants as seen
 
@@ -8,4 +8,3 @@ abbrev pub object_of : SeenObject → Object
 object_of (seen.Top value) = at_top (view value.now)
 object_of (seen.Pipeline i value) = at_pipeline i (view value.now)
 object_of (seen.Stage i j value) = at_stage i j (view value.now)
-object_of (seen.LaterStage i j) = at_later_stage i j

@@ -37,26 +37,9 @@ pub data Object : Type 0 where
   at_top : Data → Object
   at_pipeline : ℕ → Data → Object
   at_stage : ℕ → ℕ → Data → Object
-  -- a stage that is not read yet: nothing of it is looked at but its type
-  at_later_stage : ℕ → ℕ → Object
-
--- types of stages that are known, and not read yet
-abbrev pub later_types : List (List ℕ)
-later_types =
-    codes "org.osbuild.groups" ∷ codes "org.osbuild.users" ∷ codes "org.osbuild.hostname" ∷ codes "org.osbuild.locale"
-    ∷ codes "org.osbuild.timezone" ∷ codes "org.osbuild.keymap" ∷ codes "org.osbuild.machine-id" ∷ []
-
-unfoldable pub is_later_type : List ℕ → Bool
-is_later_type text = list_any (λ later. pointwise ◌==◌ later text) later_types
-
-abbrev pub is_later_stage : Data → Bool
-is_later_stage stage = there_is is_later_type (text_at (codes "type") stage)
-
-abbrev pub stage_object : ℕ → ℕ → Data → Object
-stage_object i j value = if is_later_stage value then at_later_stage i j else at_stage i j value
 
 abbrev pub stage_objects : ℕ → ℕ → Data → List Object
-stage_objects i j value = stage_object i j value ∷ []
+stage_objects i j value = at_stage i j value ∷ []
 
 -- the objects of each value of a list, whose places count from a first one
 abbrev pub in_order : (ℕ → Data → List Object) → ℕ → List Data → List Object
@@ -80,28 +63,24 @@ abbrev pub not_object : Object → List Refusal
 not_object (at_top value) = when (not (is_object value)) (refusals.NotObject (place_text []))
 not_object (at_pipeline i value) = []
 not_object (at_stage i j value) = []
-not_object (at_later_stage i j) = []
 
 -- 4: the version is the text `2`
 abbrev pub other_version : Object → List Refusal
 other_version (at_top value) = when (not (is_text (codes "2") (text_at (codes "version") value))) (refusals.Version (place_text []))
 other_version (at_pipeline i value) = []
 other_version (at_stage i j value) = []
-other_version (at_later_stage i j) = []
 
 -- 5: at most 256 pipelines, each of at most 1,024 stages
 abbrev pub too_many : Object → List Refusal
 too_many (at_top value) = when (nat_lt 256 (length (list_at (codes "pipelines") value))) (refusals.TooMany (place_text (known (codes "pipelines") ∷ [])))
 too_many (at_pipeline i value) = when (nat_lt 1024 (length (list_at (codes "stages") value))) (refusals.TooMany (place_text (member_place (pipeline_place i) (codes "stages"))))
 too_many (at_stage i j value) = []
-too_many (at_later_stage i j) = []
 
 -- 6
 abbrev pub wrong_members : Object → List Refusal
 wrong_members (at_top value) = map (refusals.Member (place_text [])) (offending top_shape value)
 wrong_members (at_pipeline i value) = map (refusals.Member (place_text (pipeline_place i))) (offending pipeline_shape value)
 wrong_members (at_stage i j value) = map (refusals.Member (place_text (stage_place i j))) (offending stage_shape value)
-wrong_members (at_later_stage i j) = []
 
 abbrev pub options_place : ℕ → ℕ → List ℕ
 options_place i j = place_text (member_place (stage_place i j) (codes "options"))
@@ -111,7 +90,6 @@ abbrev pub wrong_numbers : Object → List Refusal
 wrong_numbers (at_top value) = []
 wrong_numbers (at_pipeline i value) = []
 wrong_numbers (at_stage i j value) = map (λ place. refusals.BadNumber (options_place i j ++ place_text place)) (bad_numbers (options_of value))
-wrong_numbers (at_later_stage i j) = []
 
 -- a pipeline of the list before a place has the name
 abbrev pub is_taken : List Data → ℕ → List ℕ → Bool
@@ -122,7 +100,6 @@ abbrev pub duplicate : Data → Object → List Refusal
 duplicate whole (at_top value) = []
 duplicate whole (at_pipeline i value) = when (there_is (is_taken (list_at (codes "pipelines") whole) i) (name_of value)) (refusals.DuplicatePipeline (place_text (pipeline_place i)))
 duplicate whole (at_stage i j value) = []
-duplicate whole (at_later_stage i j) = []
 
 abbrev pub is_unknown : Option (Result StageKind KindFault) → Bool
 is_unknown (Some (Err kinds.UnknownStage)) = true
@@ -133,7 +110,6 @@ abbrev pub unknown_stage : Object → List Refusal
 unknown_stage (at_top value) = []
 unknown_stage (at_pipeline i value) = []
 unknown_stage (at_stage i j value) = when (is_unknown (stage_kind value)) (refusals.UnknownStage (place_text (stage_place i j)))
-unknown_stage (at_later_stage i j) = []
 
 abbrev pub faults_of : Option (Result StageKind KindFault) → List OptionFault
 faults_of (Some (Err (kinds.Options fault))) = fault ∷ []
@@ -144,14 +120,12 @@ abbrev pub wrong_options : Object → List Refusal
 wrong_options (at_top value) = []
 wrong_options (at_pipeline i value) = []
 wrong_options (at_stage i j value) = map (refusals.Options (options_place i j)) (faults_of (stage_kind value))
-wrong_options (at_later_stage i j) = []
 
--- 16: sources, build pipelines, further stages and inputs
+-- 16: sources, build pipelines and inputs
 abbrev pub not_yet : Object → List Refusal
 not_yet (at_top value) = when (has_members_at (codes "sources") value) (refusals.NotYet (place_text (known (codes "sources") ∷ [])))
 not_yet (at_pipeline i value) = when (is_some (text_at (codes "build") value)) (refusals.NotYet (place_text (member_place (pipeline_place i) (codes "build"))))
 not_yet (at_stage i j value) = when (has_members_at (codes "inputs") value) (refusals.NotYet (place_text (member_place (stage_place i j) (codes "inputs"))))
-not_yet (at_later_stage i j) = refusals.NotYet (place_text (stage_place i j)) ∷ []
 
 -- ---- the refusals of a manifest
 

@@ -125,7 +125,6 @@ fn wrong_member(alloc: Global, here: Object) -> Result<Option<Refusal>, NoMemory
             Some(name) => Ok(Some(Refusal::Member(stage_place(alloc, i, j)?, name))),
             None => Ok(None),
         },
-        Object::LaterStage(..) => Ok(None),
     }
 }
 
@@ -216,7 +215,6 @@ fn not_yet(alloc: Global, here: Object) -> Result<Option<Refusal>, NoMemory>
         Object::Stage(i, j, value) if has_members_at(value, "inputs") => Ok(Some(Refusal::NotYet(
             place_in_stage(alloc, i, j, "inputs")?,
         ))),
-        Object::LaterStage(i, j) => Ok(Some(Refusal::NotYet(stage_place(alloc, i, j)?))),
         _ => Ok(None),
     }
 }

@@ -8,7 +8,7 @@ ghost use Rattle.osb_manifest.specs.Walks.{in_order, stage_objects, pipeline_obj
 
 use crate::Refusal;
 use crate::conditions::{Condition, applies};
-use crate::objects::{Object, stage_object};
+use crate::objects::Object;
 use osb_base::NoMemory;
 use osb_shape::values::list_at;
 use serde_json::Value;
@@ -105,7 +105,7 @@ fn first_of_stages(
     ensures { IfOk result (λ found. found ≡ first (flat_map (applies (view whole.now) condition) (in_order (stage_objects i) 0 (list_of (items_view stages.now))))) }
 {
     for (j, stage) in stages.iter().enumerate() {
-        if let Some(refusal) = applies(alloc, whole, condition, stage_object(i, j, stage))? {
+        if let Some(refusal) = applies(alloc, whole, condition, Object::Stage(i, j, stage))? {
             return Ok(Some(refusal));
         }
     }

@@ -3,7 +3,9 @@ ghost use Rattle.serde_json.specs.View.{view};
 ghost use Rattle.osb_stages.specs.Readers.{IsObject};
 ghost use Rattle.osb_recipe.specs.Kinds.{type_text, kind_of, effect};
 
+use osb_accounts::{groups, users};
 use osb_files::{chmod, chown, copy, error, mkdir, noop, symlink};
+use osb_system::{hostname, keymap, locale, machine_id, timezone};
 use osb_tree::{Inputs, OptionFault, StageFault, Tree};
 use serde_json::Value;
 use std::alloc::Global;
@@ -25,6 +27,20 @@ pub enum StageKind {
     Chmod(chmod::Options),
     /// Gives owners.
     Chown(chown::Options),
+    /// Adds groups.
+    Groups(groups::Options),
+    /// Adds and changes users.
+    Users(users::Options),
+    /// Names the system.
+    Hostname(hostname::Options),
+    /// Sets the language.
+    Locale(locale::Options),
+    /// Sets the time zone.
+    Timezone(timezone::Options),
+    /// Sets the console's keys.
+    Keymap(keymap::Options),
+    /// Says whether the system boots for the first time.
+    MachineId(machine_id::Options),
 }
 
 /// Why a type and options are no stage.
@@ -44,34 +60,48 @@ impl StageKind {
         ensures kind { result ≢ Err KindFault.NoMemory → result ≡ kind_of stage.now (view options.now) }
     {
         match stage {
-            "org.osbuild.noop" => match noop::read_options(alloc, options) {
-                Ok(options) => Ok(StageKind::Noop(options)),
-                Err(fault) => Err(options_fault(fault)),
-            },
-            "org.osbuild.error" => match error::read_options(alloc, options) {
-                Ok(options) => Ok(StageKind::Error(options)),
-                Err(fault) => Err(options_fault(fault)),
-            },
-            "org.osbuild.mkdir" => match mkdir::read_options(alloc, options) {
-                Ok(options) => Ok(StageKind::Mkdir(options)),
-                Err(fault) => Err(options_fault(fault)),
-            },
-            "org.osbuild.copy" => match copy::read_options(alloc, options) {
-                Ok(options) => Ok(StageKind::Copy(options)),
-                Err(fault) => Err(options_fault(fault)),
-            },
-            "org.osbuild.symlink" => match symlink::read_options(alloc, options) {
-                Ok(options) => Ok(StageKind::Symlink(options)),
-                Err(fault) => Err(options_fault(fault)),
-            },
-            "org.osbuild.chmod" => match chmod::read_options(alloc, options) {
-                Ok(options) => Ok(StageKind::Chmod(options)),
-                Err(fault) => Err(options_fault(fault)),
-            },
-            "org.osbuild.chown" => match chown::read_options(alloc, options) {
-                Ok(options) => Ok(StageKind::Chown(options)),
-                Err(fault) => Err(options_fault(fault)),
-            },
+            "org.osbuild.noop" => noop::read_options(alloc, options)
+                .map(StageKind::Noop)
+                .map_err(options_fault),
+            "org.osbuild.error" => error::read_options(alloc, options)
+                .map(StageKind::Error)
+                .map_err(options_fault),
+            "org.osbuild.mkdir" => mkdir::read_options(alloc, options)
+                .map(StageKind::Mkdir)
+                .map_err(options_fault),
+            "org.osbuild.copy" => copy::read_options(alloc, options)
+                .map(StageKind::Copy)
+                .map_err(options_fault),
+            "org.osbuild.symlink" => symlink::read_options(alloc, options)
+                .map(StageKind::Symlink)
+                .map_err(options_fault),
+            "org.osbuild.chmod" => chmod::read_options(alloc, options)
+                .map(StageKind::Chmod)
+                .map_err(options_fault),
+            "org.osbuild.chown" => chown::read_options(alloc, options)
+                .map(StageKind::Chown)
+                .map_err(options_fault),
+            "org.osbuild.groups" => groups::read_options(alloc, options)
+                .map(StageKind::Groups)
+                .map_err(options_fault),
+            "org.osbuild.users" => users::read_options(alloc, options)
+                .map(StageKind::Users)
+                .map_err(options_fault),
+            "org.osbuild.hostname" => hostname::read_options(alloc, options)
+                .map(StageKind::Hostname)
+                .map_err(options_fault),
+            "org.osbuild.locale" => locale::read_options(alloc, options)
+                .map(StageKind::Locale)
+                .map_err(options_fault),
+            "org.osbuild.timezone" => timezone::read_options(alloc, options)
+                .map(StageKind::Timezone)
+                .map_err(options_fault),
+            "org.osbuild.keymap" => keymap::read_options(alloc, options)
+                .map(StageKind::Keymap)
+                .map_err(options_fault),
+            "org.osbuild.machine-id" => machine_id::read_options(alloc, options)
+                .map(StageKind::MachineId)
+                .map_err(options_fault),
             _ => Err(KindFault::UnknownStage),
         }
     }
@@ -88,6 +118,13 @@ impl StageKind {
             StageKind::Symlink(_) => "org.osbuild.symlink",
             StageKind::Chmod(_) => "org.osbuild.chmod",
             StageKind::Chown(_) => "org.osbuild.chown",
+            StageKind::Groups(_) => "org.osbuild.groups",
+            StageKind::Users(_) => "org.osbuild.users",
+            StageKind::Hostname(_) => "org.osbuild.hostname",
+            StageKind::Locale(_) => "org.osbuild.locale",
+            StageKind::Timezone(_) => "org.osbuild.timezone",
+            StageKind::Keymap(_) => "org.osbuild.keymap",
+            StageKind::MachineId(_) => "org.osbuild.machine-id",
         }
     }
 
@@ -103,6 +140,13 @@ impl StageKind {
             StageKind::Symlink(options) => symlink::apply(alloc, options, tree, inputs),
             StageKind::Chmod(options) => chmod::apply(alloc, options, tree, inputs),
             StageKind::Chown(options) => chown::apply(alloc, options, tree, inputs),
+            StageKind::Groups(options) => groups::apply(alloc, options, tree, inputs),
+            StageKind::Users(options) => users::apply(alloc, options, tree, inputs),
+            StageKind::Hostname(options) => hostname::apply(alloc, options, tree, inputs),
+            StageKind::Locale(options) => locale::apply(alloc, options, tree, inputs),
+            StageKind::Timezone(options) => timezone::apply(alloc, options, tree, inputs),
+            StageKind::Keymap(options) => keymap::apply(alloc, options, tree, inputs),
+            StageKind::MachineId(options) => machine_id::apply(alloc, options, tree, inputs),
         }
     }
 }
