@@ -1,7 +1,7 @@
 -- How many identifiers there are.
-use Rattle.std.proofs.Common.{◌≡◌, ℕ, List, [], ◌∷◌, ◌++◌, length, map, Option, Some, refl, sym, ap, ◌∙◌, arith, append_assoc, append-nil}
+use Rattle.std.proofs.Common.{◌≡◌, List, [], ◌∷◌, ◌++◌, length, map, Option, Some, refl, sym, ◌∙◌, arith, append_assoc, append-nil}
 use Rattle.std.specs.Map.{values_of}
-use Rattle.std.proofs.lemmas.List.{length-map, map-append}
+use Rattle.std.proofs.lemmas.List.{map-append}
 use Rattle.sha2.specs.Sha256.{sha256}
 use Rattle.osb_manifest.specs.declared.manifests.Manifest.{Manifest}
 use Rattle.osb_manifest.specs.declared.manifests.Pipeline.{Pipeline}
@@ -25,12 +25,3 @@ pub map-length-manifest_ids : (manifest : Manifest)
     → map length (manifest_ids manifest) ≡ map (λ pipeline. length pipeline.stages) (values_of manifest.pipelines)
 unfolding manifest_ids
 map-length-manifest_ids manifest = map-length-ids_after [] (values_of manifest.pipelines)
-
-pub length-manifest_ids : (manifest : Manifest) → length (manifest_ids manifest) ≡ length manifest.pipelines
-length-manifest_ids manifest =
-    let pipelines = values_of manifest.pipelines in
-    let ids = length-map (manifest_ids manifest) length in
-    let stages = length-map pipelines (λ (p : Pipeline). length p.stages) in
-    let pairs = length-map manifest.pipelines (λ (p : List ℕ × Pipeline). p.1) in
-    let same = ap length (map-length-manifest_ids manifest) in
-    omega (arith, ids, stages, pairs, same)

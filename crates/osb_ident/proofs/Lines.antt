@@ -1,5 +1,5 @@
 -- Lines of `inspect`, one after another.
-use Rattle.std.proofs.Common.{◌≡◌, ℕ, ◌+◌, ◌<◌, ◌≤◌, ◌==◌, true, false, List, [], ◌∷◌, ◌++◌, length, take, get_or, Some, refl, sym, ap, ◌∙◌, arith, append-nil, append_assoc, add-zero}
+use Rattle.std.proofs.Common.{◌≡◌, ℕ, ◌+◌, ◌<◌, ◌≤◌, ◌==◌, true, false, List, [], ◌∷◌, ◌++◌, length, min, take, get_or, Some, refl, sym, ap, ◌∙◌, arith, append-nil, append_assoc, add-zero}
 use Rattle.std.specs.Prelude.{flat_map, zip, codes}
 use Rattle.std.specs.List.{slice_get}
 use Rattle.std.specs.Map.{keys_of}
@@ -9,7 +9,7 @@ use Rattle.std.proofs.lemmas.List.Concat.{flat_map-append}
 use Rattle.osb_manifest.specs.declared.manifests.Manifest.{Manifest}
 use Rattle.osb_ident.specs.Idents.{Id}
 use Rattle.osb_ident.specs.Marks.{stage_line, stage_lines, pipeline_lines, inspect_text}
-use Rattle.osb_ident.proofs.Places.{length-zip, slice_get-zip, take_more_at}
+use Rattle.osb_ident.proofs.Places.{length-zip-keys, slice_get-zip, take_more_at}
 
 stage_lines-push : (name : List ℕ) (place : ℕ) (ids : List Id) (id : Id)
     → stage_lines name place (ids ++ id ∷ []) ≡ stage_lines name place ids ++ stage_line name (place + length ids) id
@@ -52,8 +52,8 @@ lines_below-more manifest ids i name own here there =
     let lines : List ℕ × List Id → List ℕ = λ p. pipeline_lines p.0 p.1 in
     rw (more, flat_map-append lines (take i pairs) ((name, own) ∷ []), append-nil (pipeline_lines name own)) refl
 
-pub lines_below-all : (manifest : Manifest) (ids : List (List Id)) (i : ℕ) → length ids ≤ i → lines_below manifest ids i ≡ inspect_text manifest ids
+pub lines_below-all : (manifest : Manifest) (ids : List (List Id)) (i : ℕ) → min (length manifest.pipelines) (length ids) ≤ i → lines_below manifest ids i ≡ inspect_text manifest ids
 unfolding inspect_text
 lines_below-all manifest ids i past =
-    let len = length-zip (keys_of manifest.pipelines) ids in
+    let len = length-zip-keys manifest.pipelines ids in
     ap (flat_map _) (take_all i (zip (keys_of manifest.pipelines) ids) (omega (arith, len)))

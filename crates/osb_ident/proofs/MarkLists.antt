@@ -1,5 +1,5 @@
 -- Marks, one after another.
-use Rattle.std.proofs.Common.{◌≡◌, ℕ, zero, suc, ◌+◌, ◌<◌, ◌≤◌, ◌==◌, true, false, List, [], ◌∷◌, ◌++◌, length, take, get_or, Some, refl, sym, ap, arith}
+use Rattle.std.proofs.Common.{◌≡◌, ℕ, zero, suc, ◌+◌, ◌<◌, ◌≤◌, ◌==◌, true, false, List, [], ◌∷◌, ◌++◌, length, min, take, get_or, Some, refl, sym, ap, arith}
 use Rattle.std.specs.Prelude.{zip}
 use Rattle.std.specs.List.{slice_get}
 use Rattle.std.specs.Map.{keys_of}
@@ -9,7 +9,7 @@ use Rattle.osb_manifest.specs.declared.manifests.Manifest.{Manifest}
 use Rattle.osb_ident.specs.Idents.{Id}
 use Rattle.osb_ident.specs.Marks.{is_marked, marks_of, manifest_marks}
 use Rattle.osb_ident.specs.declared.checkpoints.Checkpoint.{Checkpoint}
-use Rattle.osb_ident.proofs.Places.{length-zip, slice_get-zip, take_more_of}
+use Rattle.osb_ident.proofs.Places.{length-zip-keys, slice_get-zip, take_more_of}
 
 not_last : (n : ℕ) → (1 == suc (suc n)) ≡ false
 not_last n = grind (arith, nat_tests)
@@ -51,10 +51,10 @@ manifest_marks-more manifest ids checkpoints i name own here there =
     take_more_of (λ (p : List ℕ × List Id). marks_of checkpoints p.0 p.1) (zip (keys_of manifest.pipelines) ids) i (name, own)
     (slice_get-zip (keys_of manifest.pipelines) ids i name own here there)
 
-pub manifest_marks-all : (manifest : Manifest) (ids : List (List Id)) (checkpoints : List Checkpoint) (i : ℕ) → length ids ≤ i
+pub manifest_marks-all : (manifest : Manifest) (ids : List (List Id)) (checkpoints : List Checkpoint) (i : ℕ) → min (length manifest.pipelines) (length ids) ≤ i
     → take i (manifest_marks manifest ids checkpoints) ≡ manifest_marks manifest ids checkpoints
 unfolding manifest_marks
 manifest_marks-all manifest ids checkpoints i past =
     let marked = length-map (zip (keys_of manifest.pipelines) ids) (λ (p : List ℕ × List Id). marks_of checkpoints p.0 p.1) in
-    let len = length-zip (keys_of manifest.pipelines) ids in
+    let len = length-zip-keys manifest.pipelines ids in
     take_all i _ (omega (arith, marked, len))

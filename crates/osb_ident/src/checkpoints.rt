@@ -1,6 +1,5 @@
 ghost use Rattle.std.specs.Prelude.{◌≡◌, IfOk};
 ghost use Rattle.std.specs.List.{list_any};
-ghost use Rattle.osb_ident.specs.Idents.{manifest_ids};
 ghost use Rattle.osb_ident.specs.Marks.{names_pipeline, names_stage, is_marked, marks_of, manifest_marks};
 
 use crate::Ids;
@@ -58,20 +57,21 @@ fn pipeline_marks(
     Ok(List::new(marks))
 }
 
-/// Which stages' trees are to be kept, by pipeline and by stage.
+/// Which stages' trees are to be kept, by pipeline and by stage, as far as both have pipelines.
 pub fn marks(
     alloc: Global,
     manifest: &Manifest,
     ids: &Ids,
     checkpoints: &[Checkpoint],
 ) -> Result<List<List<bool>>, NoMemory>
-    requires { ids.now.stages ≡ manifest_ids manifest.now }
     ensures marks { IfOk result (λ marks. marks ≡ manifest_marks manifest.now ids.now.stages checkpoints.now) }
 {
+    let stages = ids.stages.as_slice();
+    let count = manifest.pipelines.len().min(stages.len());
     let mut marks = Vec::new(alloc);
-    for (place, own) in ids.stages.as_slice().iter().enumerate() {
+    for place in 0..count {
         let name = manifest.pipelines.name(place);
-        let own_marks = pipeline_marks(alloc, checkpoints, name, own.as_slice())?;
+        let own_marks = pipeline_marks(alloc, checkpoints, name, stages[place].as_slice())?;
         marks.push(own_marks)?;
     }
     Ok(List::new(marks))

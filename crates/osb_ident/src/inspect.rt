@@ -1,5 +1,4 @@
 ghost use Rattle.std.specs.Prelude.{◌≡◌, ◌++◌, IfOk, OnOk, string_bytes};
-ghost use Rattle.osb_ident.specs.Idents.{manifest_ids};
 ghost use Rattle.osb_ident.specs.Marks.{stage_line, pipeline_lines, inspect_text};
 
 use crate::Ids;
@@ -46,15 +45,17 @@ fn write_pipeline(
     Ok(())
 }
 
-/// A line for each stage: the name of its pipeline, its place in it from 0, and its identifier.
+/// A line for each stage: the name of its pipeline, its place in it from 0, and its identifier, as far as both have
+/// pipelines.
 pub fn inspect_text(alloc: Global, manifest: &Manifest, ids: &Ids) -> Result<Bytes, NoMemory>
-    requires { ids.now.stages ≡ manifest_ids manifest.now }
     ensures text { IfOk result (λ text. text ≡ inspect_text manifest.now ids.now.stages) }
 {
+    let stages = ids.stages.as_slice();
+    let count = manifest.pipelines.len().min(stages.len());
     let mut out = String::new(alloc);
-    for (place, own) in ids.stages.as_slice().iter().enumerate() {
+    for place in 0..count {
         let name = manifest.pipelines.name(place);
-        write_pipeline(alloc, &mut out, name, own.as_slice())?;
+        write_pipeline(alloc, &mut out, name, stages[place].as_slice())?;
     }
     Ok(Bytes::new(out.into_bytes()))
 }

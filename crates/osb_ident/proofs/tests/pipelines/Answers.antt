@@ -1,4 +1,4 @@
-use Rattle.std.proofs.Common.{◌==◌, List, [], ◌∷◌, refl}
+use Rattle.std.proofs.Common.{◌==◌, [], ◌∷◌, refl}
 use Rattle.std.specs.Prelude.{codes}
 use Rattle.std.specs.List.{IsDistinct}
 use Rattle.std.specs.Cmp.Lexicographic.{pointwise}
