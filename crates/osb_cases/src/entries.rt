@@ -134,7 +134,7 @@ fn name_and_rest<'a>(word: &str, rest: &'a str) -> (&'a str, &'a str) {
 
 fn argument_and_rest<'a>(word: &str, name: &str, rest: &'a str) -> (&'a str, &'a str) {
     match (word, name) {
-        ("due", "list" | "at" | "after") => first_word(rest),
+        ("due", "list" | "at" | "after" | "content") => first_word(rest),
         _ => ("", rest),
     }
 }

@@ -40,7 +40,7 @@ impl Outcome {
             Outcome::Run(run) => run.section(alloc, due)?,
             Outcome::Answer(answer) => answer_section(alloc, answer, due)?,
             Outcome::Puts(puts) => puts.section(alloc, case, due)?.map(String::into_bytes),
-            Outcome::Stage(stage) => stage.section(alloc, due)?.map(String::into_bytes),
+            Outcome::Stage(stage) => stage.section(alloc, due)?,
         };
         match came {
             Some(bytes) => Ok(bytes),

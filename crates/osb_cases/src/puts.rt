@@ -133,7 +133,7 @@ fn node_at(alloc: Global, tree: &Tree, path: &Path) -> Result<String, NoMemory> 
 }
 
 /// The path at which a section is asked.
-fn path_of(alloc: Global, due: &Entry) -> Result<Path, CaseFault> {
+pub fn path_of(alloc: Global, due: &Entry) -> Result<Path, CaseFault> {
     read_path(alloc, due.argument.as_str(), due.line)
 }
 

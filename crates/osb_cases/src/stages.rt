@@ -3,7 +3,7 @@ use crate::entries::Entry;
 use crate::mistakes::{CaseFault, Mistake};
 use crate::nodes::node_line;
 use crate::parts::{bytes_of, text_of};
-use crate::puts::{answer_of, listed_tree, read_path, tree_of};
+use crate::puts::{answer_of, listed_tree, path_of, read_path, tree_of};
 use osb_base::{Bytes, NoMemory, Text};
 use osb_recipe::{KindFault, StageKind};
 use osb_tree::{Inputs, List, Node, OptionFault, Path, Shared, StageFault, Tree};
@@ -155,15 +155,24 @@ fn at_path(alloc: Global, words: &str, path: &Path) -> Result<String, NoMemory> 
 
 impl StageRun {
     /// What came at a section, and `None` where a stage has no such section.
-    pub fn section(&self, alloc: Global, due: &Entry) -> Result<Option<String>, NoMemory> {
+    pub fn section(&self, alloc: Global, due: &Entry) -> Result<Option<Vec<u8>>, CaseFault> {
         let text = match (due.name.as_str(), &self.tree) {
             ("answer", _) => self.answer.clone()?,
-            ("size" | "nodes", None) => String::from_str(alloc, "none")?,
+            ("size" | "nodes" | "content", None) => String::from_str(alloc, "none")?,
             ("size", Some(tree)) => format!(in alloc; "{}", tree.size())?,
             ("nodes", Some(tree)) => node_lines(alloc, tree)?,
+            ("content", Some(tree)) => return Ok(Some(content(alloc, tree, due)?)),
             _ => return Ok(None),
         };
-        Ok(Some(text))
+        Ok(Some(text.into_bytes()))
+    }
+}
+
+/// What a file holds, or `none` where there is no file.
+fn content(alloc: Global, tree: &Tree, due: &Entry) -> Result<Vec<u8>, CaseFault> {
+    match tree.get(&path_of(alloc, due)?) {
+        Some(Node::File { bytes, .. }) => Ok(bytes.as_slice().to_vec(alloc)?),
+        _ => Ok(String::from_str(alloc, "none")?.into_bytes()),
     }
 }
 
