@@ -14,11 +14,12 @@ use Rattle.osb_stages.specs.Readers.{◌>>=◌}
 use Rattle.osb_stages.specs.Rules.{Effect, in_order, with_leaf}
 use Rattle.osb_accounts.specs.Lines.{FileLines, lines_in, file_text, bad_line}
 use Rattle.osb_accounts.specs.Files.{lines_read, lines_at, file_node, written}
-use Rattle.osb_accounts.specs.Groups.{with_group}
+use Rattle.osb_accounts.specs.Groups.{with_group, groups}
 use Rattle.osb_accounts.specs.Homes.{with_home}
-use Rattle.osb_accounts.specs.Users.{with_user, all_written, users}
+use Rattle.osb_accounts.specs.Users.{with_user, accounts_at, all_written, users}
 use Rattle.osb_accounts.specs.Kept.{AreKept, StaysAs, GroupsKeepLines, UsersKeepLines, is_of_one, is_joined}
 use Rattle.osb_accounts.specs.declared.files.Accounts.{Accounts}
+use Rattle.osb_accounts.specs.declared.groups.Options.{Options as GroupsOptions}
 use Rattle.osb_accounts.specs.declared.users.Options.{Options as UsersOptions}
 use Rattle.osb_accounts.proofs.Keeping.{Test, kept-more}
 use Rattle.osb_accounts.proofs.StepsKept.{not_ok, same_ok, in_order-kept, with_group-kept, with_users-kept}
@@ -215,3 +216,12 @@ users_keep = record {
       stays_as (is_of_one options.users) Shadow run.files.shadow run.new.shadow before run.two run.made after run.shadow_read kept.shadow_kept early run.shadow_written
       (stays-with_homes Shadow (length run.files.passwd) run.new.passwd options.users run.made after run.housed) (node_at before (account_path Shadow)) refl;
 }
+
+-- ---- as the code makes them
+
+pub groups_made : (options : GroupsOptions) (listing last : Listing) (lines after : FileLines) → Ok lines ≡ lines_at Group listing → in_order with_group options.groups lines ≡ Ok after → written Group after listing ≡ Ok last → groups options listing ≡ Ok last
+groups_made options listing last lines after l a w = rw (← l, a) w
+
+pub users_made : (options : UsersOptions) (listing made last : Listing) (before after : Accounts) → Ok before ≡ accounts_at listing → in_order with_user options.users before ≡ Ok after → all_written after listing ≡ Ok made
+    → in_order (with_home (length before.passwd) after.passwd) options.users made ≡ Ok last → users options listing ≡ Ok last
+users_made options listing made last before after b a w h = rw (← b, a, w) h

@@ -1,8 +1,10 @@
 //! `org.osbuild.groups`: adds groups.
-ghost use Rattle.std.specs.Prelude.{◌≡◌, ◌≢◌, Ok, Err, IfErr, IfOk, OnOk};
+ghost use Rattle.std.specs.Prelude.{◌≡◌, ◌≢◌, Ok, Err, IfErr, IfOk, OnOk, false};
 ghost use Rattle.serde_json.specs.View.{view};
 ghost use Rattle.osb_stages.specs.Readers.{IsObject};
 ghost use Rattle.osb_stages.specs.Rules.{in_order};
+ghost use Rattle.osb_tree.specs.Accounts.{account_path};
+ghost use Rattle.osb_accounts.specs.Kept.{FileIsKept};
 ghost use Rattle.osb_accounts.specs.Groups.{group_options, groups_options, group_line, with_group, groups};
 
 use crate::files::{read_lines, write_lines};
@@ -56,6 +58,7 @@ pub fn apply(
     _inputs: &Inputs,
 ) -> Result<Tree, StageFault>
     ensures effect { result ≢ Err StageFault.NoMemory → result ≡ groups options.now tree }
+    ensures kept { IfOk result (λ after. FileIsKept (λ line. false) (account_path AccountFile.Group) tree after) }
 {
     let mut lines = read_lines(alloc, AccountFile::Group, &tree)?;
     add_groups(alloc, options.groups.as_slice(), &mut lines)?;

@@ -1,8 +1,11 @@
 //! `org.osbuild.users`: adds users, and changes those that are there.
-ghost use Rattle.std.specs.Prelude.{◌≡◌, ◌≢◌, Ok, Err, IfErr, OnOk, length};
+ghost use Rattle.std.specs.Prelude.{◌≡◌, ◌≢◌, Ok, Err, IfErr, IfOk, OnOk};
 ghost use Rattle.serde_json.specs.View.{view};
 ghost use Rattle.osb_stages.specs.Readers.{IsObject};
 ghost use Rattle.osb_stages.specs.Rules.{in_order};
+ghost use Rattle.osb_tree.specs.Accounts.{account_path};
+ghost use Rattle.osb_tree.specs.declared.accounts.AccountFile.TheVariants.{Passwd, Group, Shadow};
+ghost use Rattle.osb_accounts.specs.Kept.{FileIsKept, is_of_one, is_joined};
 ghost use Rattle.osb_accounts.specs.UserOptions.{user_options, users_options};
 ghost use Rattle.osb_accounts.specs.Homes.{with_home};
 ghost use Rattle.osb_accounts.specs.Users.{with_account, with_user, users};
@@ -103,6 +106,9 @@ pub fn apply(
     _inputs: &Inputs,
 ) -> Result<Tree, StageFault>
     ensures effect { result ≢ Err StageFault.NoMemory → result ≡ users options.now tree }
+    ensures passwd_kept { IfOk result (λ after. FileIsKept (is_of_one options.now.users) (account_path Passwd) tree after) }
+    ensures group_kept { IfOk result (λ after. FileIsKept (is_joined options.now.users) (account_path Group) tree after) }
+    ensures shadow_kept { IfOk result (λ after. FileIsKept (is_of_one options.now.users) (account_path Shadow) tree after) }
 {
     let users = options.users.as_slice();
     let mut files = Accounts::read(alloc, &tree)?;
