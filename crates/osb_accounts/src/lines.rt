@@ -47,12 +47,6 @@ impl Line {
         })
     }
 
-    pub fn fields(&self) -> &[Bytes]
-        ensures fields { result.now ≡ self.now }
-    {
-        &self.fields
-    }
-
     /// A field by its place, from 0; empty where the line has no such field.
     pub fn field(&self, place: usize) -> &[u8]
         ensures field { result.now ≡ field place self.now }

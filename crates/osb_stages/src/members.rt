@@ -2,7 +2,7 @@
 ghost use Rattle.std.specs.Prelude.{◌≡◌, ◌≢◌, [], Ok, Err, IfOk};
 ghost use Rattle.serde_json.specs.View.{view, items_view};
 ghost use Rattle.osb_tree.specs.Nodes.{IsOwner};
-ghost use Rattle.osb_stages.specs.Readers.{Reader, required, optional, if_there, number_to, account_name, account_key, values, values_of};
+ghost use Rattle.osb_stages.specs.Readers.{Reader, optional, if_there, number_to, account_name, account_key, values, values_of};
 
 use crate::owners::{AccountName, Owner};
 use crate::readers::{Key, number_to, text};
@@ -48,16 +48,6 @@ impl Key for AccountName {
             Some(called) => Ok(called),
             None => Err(OptionFault::OutOfRange(Text::new(alloc, name)?)),
         }
-    }
-}
-
-/// What a member says that has to be there.
-pub fn required<T: Member>(alloc: Global, name: &str, options: &Value) -> Result<T, OptionFault>
-    ensures member { result ≢ Err OptionFault.NoMemory → result ≡ required T.reader name.now (view options.now) }
-{
-    match options.get(name) {
-        Some(value) => T::read(alloc, name, value),
-        None => Err(OptionFault::Missing(Text::new(alloc, name)?)),
     }
 }
 

@@ -167,7 +167,7 @@ fn flag(alloc: Global, name: &str, value: &Value) -> Result<bool, OptionFault>
 }
 
 pub fn text(alloc: Global, name: &str, value: &Value) -> Result<Text, OptionFault>
-    ensures { result ≢ Err OptionFault.NoMemory → result ≡ text name.now (view value.now) }
+    ensures text { result ≢ Err OptionFault.NoMemory → result ≡ text name.now (view value.now) }
 {
     match value.as_str() {
         Some(text) => Ok(Text::new(alloc, text)?),
@@ -194,7 +194,7 @@ pub(crate) fn number_to(
 }
 
 pub fn path(alloc: Global, name: &str, value: &Value) -> Result<Path, OptionFault>
-    ensures { result ≢ Err OptionFault.NoMemory → result ≡ path name.now (view value.now) }
+    ensures path { result ≢ Err OptionFault.NoMemory → result ≡ path name.now (view value.now) }
 {
     let Some(text) = value.as_str() else {
         return Err(OptionFault::WrongKind(Text::new(alloc, name)?));
