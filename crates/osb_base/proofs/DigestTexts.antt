@@ -14,11 +14,11 @@ use Rattle.osb_base.specs.declared.digests.DigestFault.TheVariants.{BadForm}
 
 -- ---- tests of each number below a bound, which compute
 
-abbrev all_below : (ℕ → Bool) → ℕ → Bool
+abbrev pub all_below : (ℕ → Bool) → ℕ → Bool
 all_below test zero = true
 all_below test (suc n) = test n && all_below test n
 
-all_below-at : (test : ℕ → Bool) (n k : ℕ) → all_below test n ≡ true → k < n → test k ≡ true
+pub all_below-at : (test : ℕ → Bool) (n k : ℕ) → all_below test n ≡ true → k < n → test k ≡ true
 all_below-at test zero k h lt = absurd (omega arith)
 all_below-at test (suc n) k h lt =
     let parts = and_parts (test n) (all_below test n) h in

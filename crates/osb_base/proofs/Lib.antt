@@ -1,3 +1,4 @@
 pub mod DigestTexts
+pub mod DigestOrder
 pub mod Cuts
 pub mod NamedItems

@@ -1,20 +1,24 @@
-//! The outside, as the builder sees it: where manifests are read, where trees are exported, and where lines are
-//! written. Each end is a trait, with objects in memory beside it.
+//! The outside, as the builder sees it: where manifests are read, where items are had, where trees are exported, and
+//! where lines are written. Each end is a trait, with objects in memory beside it.
 #![tactic(auto)]
 
 mod digests;
 mod exporters;
 mod failing;
 mod faults;
+mod fetchers;
 pub mod laws;
 mod lookups;
+mod shares;
 mod shelves;
 mod sinks;
 
 pub use digests::{Digest, DigestFault};
 pub use exporters::{Exporter, MemExporter, Op, SureExporter};
 pub use faults::{Failed, ReadStop, WriteStop};
-pub use lookups::find_named;
+pub use fetchers::{Fetched, Fetcher, MemFetcher, SureFetcher};
+pub use lookups::{find_item, find_named};
 pub use osb_tree::{Bytes, Key, List, Name, NoMemory, Path, TaskNo, Text, WorkerNo};
+pub use shares::Share;
 pub use shelves::{MOST_FILE_BYTES, MemShelf, Shelf, SureShelf};
 pub use sinks::{MemSink, Sink, SureSink};

@@ -119,7 +119,8 @@ fn read_file(alloc: Global, files: &[(Text, Bytes)], name: &str) -> Result<Optio
     }
 }
 
-fn front_of(alloc: Global, bytes: &[u8]) -> Result<Bytes, NoMemory>
+/// As much of these bytes as a shelf gives.
+pub(crate) fn front_of(alloc: Global, bytes: &[u8]) -> Result<Bytes, NoMemory>
     ensures front { IfOk result (λ front. front ≡ cut bytes.now) }
     ensures short { IfOk result (λ front. length front ≤ 16777217) }
 {
