@@ -1,0 +1,10 @@
+pub mod Tries
+pub mod Searches
+pub mod Asks
+pub mod Turns
+pub mod Rounds
+pub mod Gatherings
+pub mod Thinned
+pub mod Causes
+pub mod Kept
+pub mod Counts
