@@ -36,6 +36,15 @@ pipeline_place i = known (codes "pipelines") ∷ index i ∷ []
 abbrev pub stage_place : ℕ → ℕ → Place
 stage_place i j = known (codes "pipelines") ∷ index i ∷ known (codes "stages") ∷ index j ∷ []
 
+abbrev pub input_place : ℕ → ℕ → List ℕ → Place
+input_place i j name = known (codes "pipelines") ∷ index i ∷ known (codes "stages") ∷ index j ∷ known (codes "inputs") ∷ named name ∷ []
+
+abbrev pub source_place : List ℕ → Place
+source_place source = known (codes "sources") ∷ named source ∷ []
+
+abbrev pub item_place : List ℕ → List ℕ → Place
+item_place source key = known (codes "sources") ∷ named source ∷ known (codes "items") ∷ named key ∷ []
+
 -- a member of a known name of what stands at a place
 abbrev pub member_place : Place → List ℕ → Place
 member_place place name = place ++ known name ∷ []

@@ -1,11 +1,12 @@
 -- The shape of a manifest's objects: which members each may have.
-use Rattle.std.specs.Prelude.{ℕ, ◌==◌, Bool, true, false, not, ◌&&◌, ◌||◌, List, [], ◌∷◌, ◌++◌, codes, map, Option, Some, None, is_some, if◌then◌else◌}
+use Rattle.std.specs.Prelude.{ℕ, ◌==◌, Bool, true, false, not, ◌||◌, List, [], ◌∷◌, ◌++◌, codes, map, Option, Some, None, is_some, if◌then◌else◌}
 use Rattle.std.specs.List.{filter, list_any}
 use Rattle.std.specs.Cmp.Lexicographic.{pointwise}
-use Rattle.serde_json.specs.Data.{Data, Items, no_items, item, Members, no_members, member}
+use Rattle.serde_json.specs.Data.{Data, Members, no_members, member}
 use Rattle.serde_json.specs.Find.{get, as_str, as_array, as_object}
 use Rattle.osb_shape.specs.Forms.{is_pipeline_name}
-use Rattle.osb_shape.specs.Values.{is_object, is_empty_items, is_empty_members, there_is}
+use Rattle.osb_shape.specs.Values.{is_object, is_empty_items, is_empty_members, there_is, all_items, all_members}
+use Rattle.osb_shape.specs.References.{is_references, is_one_reference, is_inline, is_curl}
 use Rattle.osb_shape.specs.declared.shapes.Form.{Form}
 use Rattle.osb_shape.specs.declared.shapes.Form.TheVariants as forms
 
@@ -33,7 +34,7 @@ shape rows is_open = record { rows = rows; is_open = is_open }
 abbrev pub top_shape : Shape
 top_shape = record {
   rows = may_have (codes "pipelines") forms.ListOfObjects
-      ∷ may_have (codes "sources") forms.Object
+      ∷ may_have (codes "sources") forms.ObjectOfObjects
       ∷ [];
   is_open = true;
 }
@@ -52,24 +53,53 @@ abbrev pub stage_shape : Shape
 stage_shape = record {
   rows = must_have (codes "type") forms.Text
       ∷ may_have (codes "options") forms.Object
-      ∷ may_have (codes "inputs") forms.Object
+      ∷ may_have (codes "inputs") forms.ObjectOfObjects
       ∷ may_have (codes "devices") forms.Nothing
       ∷ may_have (codes "mounts") forms.Nothing
       ∷ [];
   is_open = false;
 }
 
+-- an input; that of a tree has one reference
+abbrev pub input_shape : Bool → Shape
+input_shape is_tree = record {
+  rows = must_have (codes "type") forms.Text
+      ∷ must_have (codes "origin") forms.Text
+      ∷ must_have (codes "references") (if is_tree then forms.OneReference else forms.References)
+      ∷ [];
+  is_open = false;
+}
+
+-- the items of a source: where they are held in it objects, where they are to be had elsewhere texts or objects
+abbrev pub items_form : List ℕ → Form
+items_form source =
+    if is_inline source then forms.ObjectOfObjects
+    else if is_curl source then forms.ObjectOfTextsOrObjects
+    else forms.Object
+
+abbrev pub source_shape : List ℕ → Shape
+source_shape source = record { rows = may_have (codes "items") (items_form source) ∷ []; is_open = true }
+
+abbrev pub inline_item_rows : List Row
+inline_item_rows = must_have (codes "encoding") forms.Text ∷ must_have (codes "data") forms.Text ∷ []
+
+-- an item that a source holds itself; nothing is asked of others
+abbrev pub item_shape : List ℕ → Shape
+item_shape source = record { rows = if is_inline source then inline_item_rows else []; is_open = true }
+
 -- ---- what is wrong with an object
 
-abbrev pub are_objects : Items → Bool
-are_objects no_items = true
-are_objects (item value rest) = is_object value && are_objects rest
+abbrev pub is_text_or_object : Data → Bool
+is_text_or_object value = is_some (as_str value) || is_object value
 
 abbrev pub is_named_so : Data → Bool
 is_named_so value = there_is is_pipeline_name (as_str value)
 
 abbrev pub is_list_of_objects : Data → Bool
-is_list_of_objects value = there_is are_objects (as_array value)
+is_list_of_objects value = there_is (all_items is_object) (as_array value)
+
+abbrev pub is_object_of : (Data → Bool) → Data → Bool
+is_object_of test value = there_is (all_members test) (as_object value)
 
 -- an empty list, or an object with no members
 abbrev pub is_nothing : Data → Bool
@@ -80,6 +110,10 @@ has_form forms.Text value = is_some (as_str value)
 has_form forms.PipelineName value = is_named_so value
 has_form forms.Object value = is_object value
 has_form forms.ListOfObjects value = is_list_of_objects value
+has_form forms.ObjectOfObjects value = is_object_of is_object value
+has_form forms.ObjectOfTextsOrObjects value = is_object_of is_text_or_object value
+has_form forms.References value = is_references value
+has_form forms.OneReference value = is_one_reference value
 has_form forms.Nothing value = is_nothing value
 
 -- a required member is absent, or a member has another form

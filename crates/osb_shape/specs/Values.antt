@@ -1,5 +1,5 @@
 -- Looks into a JSON value.
-use Rattle.std.specs.Prelude.{ℕ, ◌==◌, Bool, true, false, not, List, [], ◌∷◌, Option, Some, None, is_some, option_and_then, unwrap_or}
+use Rattle.std.specs.Prelude.{ℕ, ◌==◌, Bool, true, false, ◌&&◌, List, [], ◌∷◌, Option, Some, None, is_some, option_and_then, unwrap_or}
 use Rattle.std.specs.Cmp.Lexicographic.{pointwise}
 use Rattle.serde_json.specs.Data.{Data, Items, no_items, item, Members, no_members, member}
 use Rattle.serde_json.specs.Find.{get, as_str, as_array, as_object}
@@ -50,6 +50,26 @@ members_in found = unwrap_or (option_and_then as_object found) no_members
 abbrev pub members_at : List ℕ → Data → Members
 members_at name value = members_in (get name value)
 
--- an object that is there and has members
-abbrev pub has_members_at : List ℕ → Data → Bool
-has_members_at name value = not (is_empty_members (members_at name value))
+-- the value of a member, if there is one, passes a test
+abbrev pub is_absent_or : (Data → Bool) → Option Data → Bool
+is_absent_or test None = true
+is_absent_or test (Some value) = test value
+
+-- each member of an object passes a test
+abbrev pub all_members : (Data → Bool) → Members → Bool
+all_members test no_members = true
+all_members test (member name value rest) = test value && all_members test rest
+
+abbrev pub all_items : (Data → Bool) → Items → Bool
+all_items test no_items = true
+all_items test (item value rest) = test value && all_items test rest
+
+-- an object has one member alone
+abbrev pub is_single : Members → Bool
+is_single no_members = false
+is_single (member name value no_members) = true
+is_single (member name value (member other more rest)) = false
+
+abbrev pub first_name : Members → Option (List ℕ)
+first_name no_members = None
+first_name (member name value rest) = Some name

@@ -4,6 +4,7 @@
 mod forms;
 mod numbers;
 pub mod places;
+pub mod references;
 pub mod shapes;
 pub mod values;
 

@@ -2,7 +2,7 @@
 ghost use Rattle.std.specs.Prelude.{◌≡◌, [], ◌∷◌, ◌++◌, codes, IfOk, string_bytes};
 ghost use Rattle.std.specs.List.{flat_map};
 ghost use Rattle.std.specs.Str.{chars};
-ghost use Rattle.osb_shape.specs.Places.{known, named, index, escaped_char, step_text, place_text, pipeline_place, stage_place, member_place};
+ghost use Rattle.osb_shape.specs.Places.{known, named, index, escaped_char, step_text, place_text, pipeline_place, stage_place, input_place, source_place, item_place, member_place};
 
 use osb_base::{NoMemory, Text};
 use std::alloc::Global;
@@ -50,6 +50,30 @@ pub fn place_in_options(alloc: Global, i: usize, j: usize, rest: &str) -> Result
 {
     let options = place_in_stage(alloc, i, j, "options")?;
     Ok(Text::from(format!(in alloc; "{}{rest}", options.as_str())?))
+}
+
+/// The place of a stage's input of a name.
+pub fn input_place(alloc: Global, i: usize, j: usize, name: &str) -> Result<Text, NoMemory>
+    ensures place { IfOk result (λ place. place ≡ place_text (input_place i j name.now)) }
+{
+    let name = escaped(alloc, name)?;
+    Ok(Text::from(format!(in alloc; "/pipelines/{i}/stages/{j}/inputs/{name}")?))
+}
+
+pub fn source_place(alloc: Global, source: &str) -> Result<Text, NoMemory>
+    ensures place { IfOk result (λ place. place ≡ place_text (source_place source.now)) }
+{
+    let source = escaped(alloc, source)?;
+    Ok(Text::from(format!(in alloc; "/sources/{source}")?))
+}
+
+/// The place of an item of a source.
+pub fn item_place(alloc: Global, source: &str, key: &str) -> Result<Text, NoMemory>
+    ensures place { IfOk result (λ place. place ≡ place_text (item_place source.now key.now)) }
+{
+    let source = escaped(alloc, source)?;
+    let key = escaped(alloc, key)?;
+    Ok(Text::from(format!(in alloc; "/sources/{source}/items/{key}")?))
 }
 
 /// A place within an item of a list, from its place in the item.

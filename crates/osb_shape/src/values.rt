@@ -1,8 +1,8 @@
 //! Looks into a JSON value.
-ghost use Rattle.std.specs.Prelude.{◌≡◌, length, nat_lt, option_map};
+ghost use Rattle.std.specs.Prelude.{◌≡◌, length, nat_lt, option_map, unwrap_or};
 ghost use Rattle.serde_json.specs.Data.{object, no_members};
 ghost use Rattle.serde_json.specs.View.{view, items_view, members_view};
-ghost use Rattle.osb_shape.specs.Values.{is_empty_items, is_empty_members, list_of, list_at, text_at, is_text, members_at, has_members_at};
+ghost use Rattle.osb_shape.specs.Values.{is_object, all_items, all_members, is_empty_items, is_empty_members, list_of, list_at, text_at, is_text, members_at};
 
 use serde_json::{Map, Value};
 
@@ -16,6 +16,28 @@ pub(crate) fn is_empty_object(members: &Map<String, Value>) -> bool
     ensures { result ≡ is_empty_members (members_view members.now.entries) }
 {
     members.is_empty()
+}
+
+pub(crate) fn are_objects(items: &[Value]) -> bool
+    ensures { result ≡ all_items is_object (items_view items.now) }
+{
+    for item in items {
+        if !item.is_object() {
+            return false;
+        }
+    }
+    true
+}
+
+pub(crate) fn are_all_objects(members: &Map<String, Value>) -> bool
+    ensures { result ≡ all_members is_object (members_view members.now.entries) }
+{
+    for (_, member) in members.iter() {
+        if !member.is_object() {
+            return false;
+        }
+    }
+    true
 }
 
 pub fn text_at<'a>(value: &'a Value, name: &str) -> Option<&'a str>
@@ -51,13 +73,13 @@ pub fn is_longer(items: &[Value], most: usize) -> bool
     most < items.len()
 }
 
-/// Whether an object has an object as a member, and that has members.
-pub fn has_members_at(value: &Value, name: &str) -> bool
-    ensures members { result ≡ has_members_at name.now (view value.now) }
+/// The members of an object that an object has as a member; `None` where it has no such object.
+pub fn members_at<'a>(value: &'a Value, name: &str) -> Option<&'a Map<String, Value>>
+    ensures members { unwrap_or (option_map (λ members. members_view members.now.entries) result) no_members ≡ members_at name.now (view value.now) }
 {
     match value.get(name) {
-        Some(Value::Object(members)) => !is_empty_object(members),
-        _ => false,
+        Some(Value::Object(members)) => Some(members),
+        _ => None,
     }
 }
 
