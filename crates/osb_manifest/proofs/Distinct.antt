@@ -10,9 +10,9 @@ use Rattle.std.proofs.lemmas.List.Elements.{filter_map-append}
 use Rattle.std.proofs.lemmas.Map.Keys.{IsDistinct-push}
 use Rattle.serde_json.specs.Data.{Data}
 use Rattle.osb_shape.specs.Firsts.{first}
-use Rattle.osb_shape.specs.Values.{there_is, list_at}
+use Rattle.osb_shape.specs.Values.{there_is, list_at, members_at}
 use Rattle.osb_shape.specs.Places.{place_text, pipeline_place}
-use Rattle.osb_manifest.specs.Walks.{name_of, is_taken, in_order, pipeline_objects, all_conditions, applies, everywhere, refusals_of}
+use Rattle.osb_manifest.specs.Walks.{name_of, is_taken, in_order, by_name, pipeline_objects, source_objects, all_conditions, applies, everywhere, refusals_of}
 use Rattle.osb_manifest.specs.Manifests.{made_pipeline}
 use Rattle.osb_manifest.specs.declared.manifests.Pipeline.{Pipeline}
 use Rattle.osb_manifest.specs.declared.manifests.Refusal.{Refusal}
@@ -55,16 +55,19 @@ module _ (whole : Data) where
 
   pub names_differ_where_right : refusals_of whole ≡ [] → IsDistinct bytes_eq (filter_map name_of pipelines)
   unfolding everywhere IsDistinct
-  names_differ_where_right e = names_differ [] pipelines refl tt (none_each (everywhere whole) all_conditions e).1.1.1.1.1.0
+  names_differ_where_right e =
+      let sources = by_name source_objects (members_at (codes "sources") whole) in
+      let split = flat_map-append (applies whole conditions.Duplicate) (in_order pipeline_objects 0 pipelines) sources in
+      names_differ [] pipelines refl tt (nothing_left (duplicates 0 pipelines) (flat_map (applies whole conditions.Duplicate) sources) (sym split ∙ (none_each (everywhere whole) all_conditions e).1.1.1.1.1.0))
 
 keys_of-cons_option : (name : Option (List ℕ)) (f : List ℕ → Pipeline) (rest : List (List ℕ × Pipeline)) (names : List (List ℕ)) → keys_of rest ≡ names → keys_of (cons_option (option_map (λ n. (n, f n)) name) rest) ≡ cons_option name names
 keys_of-cons_option None f rest names e = e
 keys_of-cons_option (Some name) f rest names e = ap (λ more. name ∷ more) e
 
 -- the names of the pipelines that values stand for
-pub keys_of-made : (values : List Data) → keys_of (filter_map made_pipeline values) ≡ filter_map name_of values
-keys_of-made [] = refl
-keys_of-made (value ∷ values) = keys_of-cons_option (name_of value) _ (filter_map made_pipeline values) (filter_map name_of values) (keys_of-made values)
+pub keys_of-made : (all values : List Data) → keys_of (filter_map (made_pipeline all) values) ≡ filter_map name_of values
+keys_of-made all [] = refl
+keys_of-made all (value ∷ values) = keys_of-cons_option (name_of value) _ (filter_map (made_pipeline all) values) (filter_map name_of values) (keys_of-made all values)
 
-pub IsDistinct-made : (whole : Data) → first (refusals_of whole) ≡ None → IsDistinct bytes_eq (keys_of (filter_map made_pipeline (list_at (codes "pipelines") whole)))
-IsDistinct-made whole e = subst (IsDistinct bytes_eq) (sym (keys_of-made (list_at (codes "pipelines") whole))) (names_differ_where_right whole (none-from_first (refusals_of whole) e))
+pub IsDistinct-made : (whole : Data) → first (refusals_of whole) ≡ None → IsDistinct bytes_eq (keys_of (filter_map (made_pipeline (list_at (codes "pipelines") whole)) (list_at (codes "pipelines") whole)))
+IsDistinct-made whole e = subst (IsDistinct bytes_eq) (sym (keys_of-made (list_at (codes "pipelines") whole) (list_at (codes "pipelines") whole))) (names_differ_where_right whole (none-from_first (refusals_of whole) e))

@@ -5,7 +5,10 @@ pub mod Names
 pub mod NeededLaws
 pub mod Needs
 pub mod Nothing
+pub mod Once
 pub mod Order
+pub mod Ordered
 pub mod Rightness
+pub mod Rising
 pub mod WellFormed
 pub mod Whole

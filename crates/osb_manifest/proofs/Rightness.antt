@@ -1,16 +1,18 @@
 -- Where no condition applies, pipelines and stages are right.
-use Rattle.std.proofs.Common.{◌≡◌, ℕ, ◌+◌, Bool, true, false, true≢false, IsSome, not, ◌&&◌, cond, if◌then◌else◌, List, [], ◌∷◌, ◌++◌, codes, map, filter, Option, Some, None, is_some, option_and_then, refl, sym, ◌∙◌}
+use Rattle.std.proofs.Common.{◌≡◌, ℕ, ◌+◌, Bool, true, false, true≢false, IsSome, not, ◌&&◌, ◌||◌, cond, if◌then◌else◌, List, [], ◌∷◌, ◌++◌, codes, map, filter, Option, Some, None, is_some, option_and_then, refl, sym, ◌∙◌}
 use Rattle.std.specs.List.{AllByRecursion, flat_map}
 use Rattle.std.proofs.lemmas.List.Concat.{flat_map-append}
-use Rattle.serde_json.specs.Data.{Data, null, boolean, number, string, array, object, Items, no_items, item}
+use Rattle.serde_json.specs.Data.{Data, null, boolean, number, string, array, object, Items, no_items, item, Members, no_members, member}
 use Rattle.serde_json.specs.Find.{get, as_str}
 use Rattle.osb_shape.specs.Forms.{is_pipeline_name}
-use Rattle.osb_shape.specs.Values.{is_object, there_is, list_of, list_in, list_at, text_at, has_members_at}
-use Rattle.osb_shape.specs.Numbers.{bad_numbers}
-use Rattle.osb_shape.specs.Places.{place_text, pipeline_place, stage_place}
-use Rattle.osb_shape.specs.Shapes.{Row, Shape, may_have, must_have, top_shape, pipeline_shape, stage_shape, are_objects, is_broken_at, is_broken, broken_names, offending}
-use Rattle.osb_manifest.specs.Walks.{options_of, stage_kind, Object, at_top, at_pipeline, at_stage, stage_objects, pipeline_objects, in_order, objects, is_unknown, faults_of, applies, everywhere, all_conditions, refusals_of}
-use Rattle.osb_manifest.specs.Right.{IsRightStage, IsRightPipeline}
+use Rattle.osb_shape.specs.Firsts.{first}
+use Rattle.osb_shape.specs.Values.{is_object, there_is, list_of, list_in, list_at, text_at, members_in, members_at, all_items, all_members, is_single}
+use Rattle.osb_shape.specs.References.{references_in, references_at, is_references, is_one_reference, is_tree_input, is_files_input}
+use Rattle.osb_shape.specs.Numbers.{bad_numbers, bad_members}
+use Rattle.osb_shape.specs.Places.{place_text, pipeline_place, stage_place, input_place}
+use Rattle.osb_shape.specs.Shapes.{Row, Shape, may_have, must_have, top_shape, pipeline_shape, stage_shape, input_shape, is_broken_at, is_broken, broken_names, offending}
+use Rattle.osb_manifest.specs.Walks.{options_of, stage_kind, Object, at_top, at_pipeline, at_stage, at_input, by_name, input_objects, stage_objects, pipeline_objects, source_objects, in_order, objects, is_unknown, faults_of, is_lost, are_digests, applies, everywhere, all_conditions, refusals_of}
+use Rattle.osb_manifest.specs.Right.{IsRightStage, IsRightPipeline, AllMembers, IsRightInput, HasRightInputs, HaveRightInputs}
 use Rattle.osb_shape.specs.declared.shapes.Form.TheVariants as forms
 use Rattle.osb_manifest.specs.declared.manifests.Refusal.TheVariants as refusals
 use Rattle.osb_manifest.specs.declared.conditions.Condition.{Condition}
@@ -56,9 +58,9 @@ both : (a b : Bool) → (a && b) ≡ true → (a ≡ true) × (b ≡ true)
 both true b e = (refl, e)
 both false b e = absurd (true≢false (sym e))
 
-objects_of : (items : Items) → are_objects items ≡ true → AreObjects (list_of items)
+objects_of : (items : Items) → all_items is_object items ≡ true → AreObjects (list_of items)
 objects_of no_items e = tt
-objects_of (item value items) e = let h = both (is_object value) (are_objects items) e in (h.0, objects_of items h.1)
+objects_of (item value items) e = let h = both (is_object value) (all_items is_object items) e in (h.0, objects_of items h.1)
 
 objects_in : (name : List ℕ) (found : Option Data) → is_broken_at (may_have name forms.ListOfObjects) found ≡ false → AreObjects (list_in found)
 objects_in name None e = tt
@@ -66,8 +68,26 @@ objects_in name (Some null) e = tt
 objects_in name (Some (boolean b)) e = tt
 objects_in name (Some (number n)) e = tt
 objects_in name (Some (string s)) e = tt
-objects_in name (Some (array items)) e = objects_of items (false-from_not (are_objects items) e)
+objects_in name (Some (array items)) e = objects_of items (false-from_not (all_items is_object items) e)
 objects_in name (Some (object fields)) e = tt
+
+objects_named : (name : List ℕ) (found : Option Data) → is_broken_at (may_have name forms.ObjectOfObjects) found ≡ false → all_members is_object (members_in found) ≡ true
+objects_named name None e = refl
+objects_named name (Some null) e = refl
+objects_named name (Some (boolean b)) e = refl
+objects_named name (Some (number n)) e = refl
+objects_named name (Some (string s)) e = refl
+objects_named name (Some (array items)) e = refl
+objects_named name (Some (object fields)) e = false-from_not (all_members is_object fields) e
+
+one_reference : (is_tree : Bool) (found : Option Data) → is_tree ≡ true → is_broken_at (must_have (codes "references") (if is_tree then forms.OneReference else forms.References)) found ≡ false → is_single (references_in found) ≡ true
+one_reference false found e h = absurd (true≢false (sym e))
+one_reference true None e h = absurd (true≢false h)
+one_reference true (Some value) e h = (both (is_references value) (is_single (references_in (Some value))) (false-from_not (is_one_reference value) h)).1
+
+none_first : {A : Type 0} (xs : List A) → is_some (first xs) ≡ false → xs ≡ []
+none_first [] e = refl
+none_first (x ∷ xs) e = absurd (true≢false e)
 
 -- ---- the walk
 
@@ -89,14 +109,13 @@ module _ (whole : Data) where
 
   right_stage : (i j : ℕ) (stage : Data) → is_object stage ≡ true → IsClean (stage_objects i j stage) → IsRightStage stage
   right_stage i j stage is h =
-      let r = clean_first (at_stage i j stage) [] h in
+      let r = clean_first (at_stage i j stage) (by_name (input_objects i j) (members_at (codes "inputs") stage)) h in
       let rows = rows_hold stage_shape stage is (none-from_map (refusals.Member (place_text (stage_place i j))) (offending stage_shape stage) (r conditions.WrongMember)) in
       record {
         typed = text_in (codes "type") (get (codes "type") stage) rows.0;
         whole = none-from_map _ (bad_numbers (options_of stage)) (r conditions.BadNumber);
         known = not-from_when (is_unknown (stage_kind stage)) _ (r conditions.UnknownStage);
         taken = none-from_map _ (faults_of (stage_kind stage)) (r conditions.WrongOptions);
-        alone = not-from_when (has_members_at (codes "inputs") stage) _ (r conditions.NotYetRead);
       }
 
   right_stages : (i j : ℕ) (stages : List Data) → AreObjects stages → IsClean (in_order (stage_objects i) j stages) → AllByRecursion IsRightStage stages
@@ -128,15 +147,79 @@ module _ (whole : Data) where
   clean e conditions.WrongMember = (none_each (everywhere whole) all_conditions e).1.1.1.0
   clean e conditions.BadNumber = (none_each (everywhere whole) all_conditions e).1.1.1.1.0
   clean e conditions.Duplicate = (none_each (everywhere whole) all_conditions e).1.1.1.1.1.0
-  clean e conditions.UnknownStage = (none_each (everywhere whole) all_conditions e).1.1.1.1.1.1.0
-  clean e conditions.WrongOptions = (none_each (everywhere whole) all_conditions e).1.1.1.1.1.1.1.0
-  clean e conditions.NotYetRead = (none_each (everywhere whole) all_conditions e).1.1.1.1.1.1.1.1.0
+  clean e conditions.UnknownReference = (none_each (everywhere whole) all_conditions e).1.1.1.1.1.1.0
+  clean e conditions.UnknownStage = (none_each (everywhere whole) all_conditions e).1.1.1.1.1.1.1.0
+  clean e conditions.UnknownInput = (none_each (everywhere whole) all_conditions e).1.1.1.1.1.1.1.1.0
+  clean e conditions.UnknownSource = (none_each (everywhere whole) all_conditions e).1.1.1.1.1.1.1.1.1.0
+  clean e conditions.BadChecksum = (none_each (everywhere whole) all_conditions e).1.1.1.1.1.1.1.1.1.1.0
+  clean e conditions.OtherEncoding = (none_each (everywhere whole) all_conditions e).1.1.1.1.1.1.1.1.1.1.1.0
+  clean e conditions.WrongOptions = (none_each (everywhere whole) all_conditions e).1.1.1.1.1.1.1.1.1.1.1.1.0
+  clean e conditions.NotYetRead = (none_each (everywhere whole) all_conditions e).1.1.1.1.1.1.1.1.1.1.1.1.1.0
+
+  top_objects : refusals_of whole ≡ [] → AreObjects (list_at (codes "pipelines") whole)
+  top_objects e =
+      let h = clean e in
+      let below = in_order pipeline_objects 0 (list_at (codes "pipelines") whole) in
+      let sources = by_name source_objects (members_at (codes "sources") whole) in
+      let here = clean_first (at_top whole) (below ++ sources) h in
+      let is : is_object whole ≡ true = false-from_not (is_object whole) (not-from_when (not (is_object whole)) (refusals.NotObject (place_text [])) (here conditions.NoObject)) in
+      let rows = rows_hold top_shape whole is (none-from_map (refusals.Member (place_text [])) (offending top_shape whole) (here conditions.WrongMember)) in
+      objects_in (codes "pipelines") (get (codes "pipelines") whole) rows.0
 
   pub right : refusals_of whole ≡ [] → AllByRecursion IsRightPipeline (list_at (codes "pipelines") whole)
   right e =
       let h = clean e in
-      let here = clean_first (at_top whole) (in_order pipeline_objects 0 (list_at (codes "pipelines") whole)) h in
-      let is : is_object whole ≡ true = false-from_not (is_object whole) (not-from_when (not (is_object whole)) (refusals.NotObject (place_text [])) (here conditions.NoObject)) in
-      let rows = rows_hold top_shape whole is (none-from_map (refusals.Member (place_text [])) (offending top_shape whole) (here conditions.WrongMember)) in
-      right_pipelines 0 (list_at (codes "pipelines") whole) (objects_in (codes "pipelines") (get (codes "pipelines") whole) rows.0)
-      (clean_rest (at_top whole) (in_order pipeline_objects 0 (list_at (codes "pipelines") whole)) h)
+      let below = in_order pipeline_objects 0 (list_at (codes "pipelines") whole) in
+      let sources = by_name source_objects (members_at (codes "sources") whole) in
+      right_pipelines 0 (list_at (codes "pipelines") whole) (top_objects e) (clean_left below sources (clean_rest (at_top whole) (below ++ sources) h))
+
+  -- ---- inputs
+
+  -- the value of a member whose row holds
+  right_input : (i j : ℕ) (name : List ℕ) (input : Data) → is_object input ≡ true → IsClean (input_objects i j name input) → IsRightInput whole i input
+  right_input i j name input is h =
+      let r = clean_first (at_input i j name input) [] h in
+      let rows = rows_hold (input_shape (is_tree_input input)) input is (none-from_map (refusals.Member (place_text (input_place i j name))) (offending (input_shape (is_tree_input input)) input) (r conditions.WrongMember)) in
+      record {
+        known = false-from_not (is_tree_input input || is_files_input input) (not-from_when _ _ (r conditions.UnknownInput));
+        single = λ e. one_reference (is_tree_input input) (get (codes "references") input) e rows.1.1.0;
+        found = not-from_when (is_lost whole i input) _ (r conditions.UnknownReference);
+        digests = not-from_when (is_files_input input && not (are_digests (references_at input))) _ (r conditions.BadChecksum);
+        kept = none_first (bad_members (references_at input)) (not-from_when (is_some (first (bad_members (references_at input)))) _ (r conditions.BadNumber));
+      }
+
+  right_inputs : (i j : ℕ) (inputs : Members) → all_members is_object inputs ≡ true → IsClean (by_name (input_objects i j) inputs) → AllMembers (IsRightInput whole i) inputs
+  right_inputs i j no_members is h = tt
+  right_inputs i j (member name input inputs) is h =
+      let here = both (is_object input) (all_members is_object inputs) is in
+      (right_input i j name input here.0 (clean_left (input_objects i j name input) (by_name (input_objects i j) inputs) h), right_inputs i j inputs here.1 (clean_right (input_objects i j name input) (by_name (input_objects i j) inputs) h))
+
+  stage_inputs : (i j : ℕ) (stage : Data) → is_object stage ≡ true → IsClean (stage_objects i j stage) → HasRightInputs whole i stage
+  stage_inputs i j stage is h =
+      let inputs = by_name (input_objects i j) (members_at (codes "inputs") stage) in
+      let r = clean_first (at_stage i j stage) inputs h in
+      let rows = rows_hold stage_shape stage is (none-from_map (refusals.Member (place_text (stage_place i j))) (offending stage_shape stage) (r conditions.WrongMember)) in
+      right_inputs i j (members_at (codes "inputs") stage) (objects_named (codes "inputs") (get (codes "inputs") stage) rows.1.1.0) (clean_rest (at_stage i j stage) inputs h)
+
+  stages_inputs : (i j : ℕ) (stages : List Data) → AreObjects stages → IsClean (in_order (stage_objects i) j stages) → AllByRecursion (HasRightInputs whole i) stages
+  stages_inputs i j [] is h = tt
+  stages_inputs i j (stage ∷ stages) is h =
+      (stage_inputs i j stage is.0 (clean_left (stage_objects i j stage) (in_order (stage_objects i) (j + 1) stages) h), stages_inputs i (j + 1) stages is.1 (clean_right (stage_objects i j stage) (in_order (stage_objects i) (j + 1) stages) h))
+
+  pipeline_inputs : (i : ℕ) (pipeline : Data) → is_object pipeline ≡ true → IsClean (pipeline_objects i pipeline) → AllByRecursion (HasRightInputs whole i) (list_at (codes "stages") pipeline)
+  pipeline_inputs i pipeline is h =
+      let here = clean_first (at_pipeline i pipeline) (in_order (stage_objects i) 0 (list_at (codes "stages") pipeline)) h in
+      let rows = rows_hold pipeline_shape pipeline is (none-from_map (refusals.Member (place_text (pipeline_place i))) (offending pipeline_shape pipeline) (here conditions.WrongMember)) in
+      stages_inputs i 0 (list_at (codes "stages") pipeline) (objects_in (codes "stages") (get (codes "stages") pipeline) rows.1.1.1.0) (clean_rest (at_pipeline i pipeline) (in_order (stage_objects i) 0 (list_at (codes "stages") pipeline)) h)
+
+  pipelines_inputs : (i : ℕ) (pipelines : List Data) → AreObjects pipelines → IsClean (in_order pipeline_objects i pipelines) → HaveRightInputs whole i pipelines
+  pipelines_inputs i [] is h = tt
+  pipelines_inputs i (pipeline ∷ pipelines) is h =
+      (pipeline_inputs i pipeline is.0 (clean_left (pipeline_objects i pipeline) (in_order pipeline_objects (i + 1) pipelines) h), pipelines_inputs (i + 1) pipelines is.1 (clean_right (pipeline_objects i pipeline) (in_order pipeline_objects (i + 1) pipelines) h))
+
+  pub inputs_right : refusals_of whole ≡ [] → HaveRightInputs whole 0 (list_at (codes "pipelines") whole)
+  inputs_right e =
+      let h = clean e in
+      let below = in_order pipeline_objects 0 (list_at (codes "pipelines") whole) in
+      let sources = by_name source_objects (members_at (codes "sources") whole) in
+      pipelines_inputs 0 (list_at (codes "pipelines") whole) (top_objects e) (clean_left below sources (clean_rest (at_top whole) (below ++ sources) h))

@@ -1,6 +1,9 @@
+pub mod Pairs
 pub mod Walks
 pub mod Seen
 pub mod Named
 pub mod Manifests
 pub mod Right
 pub mod Needed
+pub mod Wanted
+pub mod Solo

@@ -1,26 +1,48 @@
 -- What holds of the pipelines and the stages of a value in which nothing is wrong.
-use Rattle.std.specs.Prelude.{◌≡◌, ℕ, false, IsTrue, IsSome, List, [], codes, is_some, length, map}
+use Rattle.std.specs.Prelude.{◌≡◌, ℕ, ◌+◌, false, not, ◌&&◌, ◌||◌, IsTrue, IsSome, List, [], ◌∷◌, codes, is_some, length, map}
 use Rattle.std.specs.List.{AllByRecursion}
-use Rattle.serde_json.specs.Data.{Data}
+use Rattle.serde_json.specs.Data.{Data, Members, no_members, member}
 use Rattle.osb_shape.specs.Forms.{is_pipeline_name}
-use Rattle.osb_shape.specs.Values.{there_is, text_at, list_at, has_members_at}
-use Rattle.osb_shape.specs.Numbers.{bad_numbers}
-use Rattle.osb_manifest.specs.Walks.{name_of, options_of, stage_kind, is_unknown, faults_of}
+use Rattle.osb_shape.specs.Values.{there_is, text_at, list_at, members_at, is_single}
+use Rattle.osb_shape.specs.Numbers.{bad_numbers, bad_members}
+use Rattle.osb_shape.specs.References.{references_at, is_tree_input, is_files_input}
+use Rattle.osb_manifest.specs.Walks.{name_of, options_of, stage_kind, is_unknown, faults_of, is_lost, are_digests}
 use Rattle.osb_manifest.specs.declared.manifests.Manifest.{Manifest}
 
--- a stage has a type that is known, takes its options, and has no inputs
+-- a stage has a type that is known, and takes its options
 pub record IsRightStage (stage : Data) : Type 0 where
   pub typed : IsSome (text_at (codes "type") stage)
   pub whole : bad_numbers (options_of stage) ≡ []
   pub known : is_unknown (stage_kind stage) ≡ false
   pub taken : faults_of (stage_kind stage) ≡ []
-  pub alone : has_members_at (codes "inputs") stage ≡ false
 
 -- a pipeline has a name, no build pipeline, and stages that are right
 pub record IsRightPipeline (pipeline : Data) : Type 0 where
   pub named : IsTrue (there_is is_pipeline_name (name_of pipeline))
   pub alone : is_some (text_at (codes "build") pipeline) ≡ false
   pub stages : AllByRecursion IsRightStage (list_at (codes "stages") pipeline)
+
+-- each member of an object is right
+abbrev pub AllMembers : (Data → Type 0) → Members → Type 0
+AllMembers IsRight no_members = Unit {0}
+AllMembers IsRight (member name value rest) = IsRight value × AllMembers IsRight rest
+
+-- an input of the pipeline at a place is a tree of a pipeline before it, or files that are referred to by their digests,
+-- with options whose numbers can be kept
+pub record IsRightInput (whole : Data) (i : ℕ) (input : Data) : Type 0 where
+  pub known : IsTrue (is_tree_input input || is_files_input input)
+  pub single : IsTrue (is_tree_input input) → IsTrue (is_single (references_at input))
+  pub found : is_lost whole i input ≡ false
+  pub digests : (is_files_input input && not (are_digests (references_at input))) ≡ false
+  pub kept : bad_members (references_at input) ≡ []
+
+abbrev pub HasRightInputs : Data → ℕ → Data → Type 0
+HasRightInputs whole i stage = AllMembers (IsRightInput whole i) (members_at (codes "inputs") stage)
+
+-- the inputs of all stages of pipelines whose places count from a first one
+abbrev pub HaveRightInputs : Data → ℕ → List Data → Type 0
+HaveRightInputs whole i [] = Unit {0}
+HaveRightInputs whole i (pipeline ∷ pipelines) = AllByRecursion (HasRightInputs whole i) (list_at (codes "stages") pipeline) × HaveRightInputs whole (i + 1) pipelines
 
 -- how many stages each pipeline of a value has
 abbrev pub stage_counts : List Data → List ℕ

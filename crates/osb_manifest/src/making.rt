@@ -13,12 +13,13 @@ ghost use Rattle.osb_manifest.specs.Right.{IsRightStage, IsRightPipeline, stage_
 ghost use Rattle.osb_manifest.specs.Named.{named};
 ghost use Rattle.osb_manifest.specs.Manifests.{made_stage, made_pipeline, made_manifest};
 
+use crate::making_inputs::make_inputs;
+use crate::making_items::make_items;
 use crate::{Manifest, Pipeline, Pipelines, Stage};
 use osb_base::{List, NoMemory, Text};
 use osb_pyjson::{PyFault, py_text};
 use osb_recipe::{KindFault, StageKind};
 use osb_shape::values::{list_at, object_at, text_at};
-use osb_sources::Items;
 use serde_json::{Map, Value};
 use std::alloc::{AllocError, Global};
 
@@ -27,36 +28,39 @@ pub fn make_manifest(alloc: Global, value: &Value) -> Result<Manifest, NoMemory>
     ensures made { IfOk result (λ manifest. manifest ≡ made_manifest (view value.now)) }
     ensures kept { IfOk result (IsKept (view value.now)) }
 {
-    let pipelines = make_pipelines(alloc, list_at(value, "pipelines"))?;
+    let values = list_at(value, "pipelines");
+    let pipelines = make_pipelines(alloc, values)?;
     Ok(Manifest {
         pipelines: Pipelines::new(alloc, pipelines)?,
-        items: Items {
-            inline: List::new(Vec::new(alloc)),
-            curl: List::new(Vec::new(alloc)),
-        },
+        items: make_items(alloc, value)?,
     })
 }
 
 fn make_pipelines(alloc: Global, values: &[Value]) -> Result<Vec<(String, Pipeline)>, NoMemory>
     requires { AllByRecursion IsRightPipeline (list_of (items_view values.now)) }
-    ensures made { IfOk result (λ pipelines. map named pipelines.items ≡ filter_map made_pipeline (list_of (items_view values.now))) }
+    ensures made { IfOk result (λ pipelines. map named pipelines.items ≡ filter_map (made_pipeline (list_of (items_view values.now))) (list_of (items_view values.now))) }
     ensures kept { IfOk result (λ pipelines. map (λ p. length p.1.stages) pipelines.items ≡ stage_counts (list_of (items_view values.now))) }
 {
     let mut pipelines = Vec::new(alloc);
     for value in values {
-        pipelines.push(make_pipeline(alloc, value)?)?;
+        pipelines.push(make_pipeline(alloc, values, value)?)?;
     }
     Ok(pipelines)
 }
 
-fn make_pipeline(alloc: Global, value: &Value) -> Result<(String, Pipeline), NoMemory>
+/// A pipeline of a list.
+fn make_pipeline(
+    alloc: Global,
+    pipelines: &[Value],
+    value: &Value,
+) -> Result<(String, Pipeline), NoMemory>
     requires { IsRightPipeline (view value.now) }
-    ensures made { IfOk result (λ pipeline. made_pipeline (view value.now) ≡ Some (named pipeline)) }
+    ensures made { IfOk result (λ pipeline. made_pipeline (list_of (items_view pipelines.now)) (view value.now) ≡ Some (named pipeline)) }
     ensures kept { IfOk result (λ pipeline. length pipeline.1.stages ≡ length (list_at (codes "stages") (view value.now))) }
 {
     let name = text_at(value, "name").unwrap();
     let name = String::from_str(alloc, name)?;
-    let stages = List::new(make_stages(alloc, list_at(value, "stages"))?);
+    let stages = List::new(make_stages(alloc, pipelines, list_at(value, "stages"))?);
     Ok((
         name,
         Pipeline {
@@ -66,21 +70,21 @@ fn make_pipeline(alloc: Global, value: &Value) -> Result<(String, Pipeline), NoM
     ))
 }
 
-fn make_stages(alloc: Global, values: &[Value]) -> Result<Vec<Stage>, NoMemory>
+fn make_stages(alloc: Global, pipelines: &[Value], values: &[Value]) -> Result<Vec<Stage>, NoMemory>
     requires { AllByRecursion IsRightStage (list_of (items_view values.now)) }
-    ensures made { IfOk result (λ stages. stages.items ≡ filter_map made_stage (list_of (items_view values.now))) }
+    ensures made { IfOk result (λ stages. stages.items ≡ filter_map (made_stage (list_of (items_view pipelines.now))) (list_of (items_view values.now))) }
     ensures kept { IfOk result (λ stages. length stages.items ≡ length values.now) }
 {
     let mut stages = Vec::new(alloc);
     for value in values {
-        stages.push(make_stage(alloc, value)?)?;
+        stages.push(make_stage(alloc, pipelines, value)?)?;
     }
     Ok(stages)
 }
 
-fn make_stage(alloc: Global, value: &Value) -> Result<Stage, NoMemory>
+fn make_stage(alloc: Global, pipelines: &[Value], value: &Value) -> Result<Stage, NoMemory>
     requires { IsRightStage (view value.now) }
-    ensures { IfOk result (λ stage. made_stage (view value.now) ≡ Some stage) }
+    ensures { IfOk result (λ stage. made_stage (list_of (items_view pipelines.now)) (view value.now) ≡ Some stage) }
 {
     let text = text_at(value, "type").unwrap();
     let empty = Value::Object(Map::new(alloc));
@@ -89,7 +93,7 @@ fn make_stage(alloc: Global, value: &Value) -> Result<Stage, NoMemory>
         kind: known_kind(alloc, text, options)?,
         type_text: Text::new(alloc, text)?,
         options_text: text_of(alloc, options)?,
-        inputs: List::new(Vec::new(alloc)),
+        inputs: List::new(make_inputs(alloc, pipelines, value)?),
     })
 }
 

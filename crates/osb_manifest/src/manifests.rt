@@ -57,12 +57,22 @@ pub enum Refusal {
     TooMany(Text),
     /// 6: a member of the object at the place is absent, unknown, or of another form: its name.
     Member(Text, Text),
-    /// 7: a number in options is a fraction, or past 64 bits.
+    /// 7: a number in options, of a stage or of a reference, is a fraction, or past 64 bits.
     BadNumber(Text),
     /// 8: a pipeline before this one has its name.
     DuplicatePipeline(Text),
+    /// 9: the reference of a tree is not `name:` and the name of a pipeline before its own.
+    UnknownReference(Text),
     /// 10: no stage has this type.
     UnknownStage(Text),
+    /// 11: an input is neither the tree of a pipeline nor items of sources.
+    UnknownInput(Text),
+    /// 12: no source has this name.
+    UnknownSource(Text),
+    /// 13: an item is referred to or listed by what is no SHA-256 digest.
+    BadChecksum(Text),
+    /// 14: an item that the manifest holds is not written in base64.
+    Encoding(Text),
     /// 15: the stage refuses its options.
     Options(Text, OptionFault),
     /// 16: what stands there is not read yet.

@@ -9,7 +9,7 @@ use Rattle.osb_manifest.proofs.making.make_pipelines.Given as goal
 
 abbrev pub invariant-loop-value : goal.invariant-loop-value
 invariant-loop-value l = record {
-  made : map named l.pipelines.items ++ filter_map made_pipeline (list_of (items_view (drop l.value-index l.values))) ≡ filter_map made_pipeline (list_of (items_view l.values));
+  made : map named l.pipelines.items ++ filter_map (made_pipeline (list_of (items_view l.values))) (list_of (items_view (drop l.value-index l.values))) ≡ filter_map (made_pipeline (list_of (items_view l.values))) (list_of (items_view l.values));
   kept : map (λ p. length p.1.stages) l.pipelines.items ++ stage_counts (list_of (items_view (drop l.value-index l.values))) ≡ stage_counts (list_of (items_view l.values));
   right : AllByRecursion IsRightPipeline (list_of (items_view (drop l.value-index l.values)));
 }

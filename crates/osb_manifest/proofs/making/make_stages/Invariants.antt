@@ -8,7 +8,7 @@ use Rattle.osb_manifest.proofs.making.make_stages.Given as goal
 
 abbrev pub invariant-loop-value : goal.invariant-loop-value
 invariant-loop-value l = record {
-  made : l.stages.items ++ filter_map made_stage (list_of (items_view (drop l.value-index l.values))) ≡ filter_map made_stage (list_of (items_view l.values));
+  made : l.stages.items ++ filter_map (made_stage (list_of (items_view l.pipelines))) (list_of (items_view (drop l.value-index l.values))) ≡ filter_map (made_stage (list_of (items_view l.pipelines))) (list_of (items_view l.values));
   kept : length l.stages.items ≡ l.value-index;
   right : AllByRecursion IsRightStage (list_of (items_view (drop l.value-index l.values)));
 }
