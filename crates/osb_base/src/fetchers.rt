@@ -28,6 +28,14 @@ pub trait Fetcher: Drop {
         ensures fetch { IsFetch digest.now (fetcher_state self.old) (fetcher_state self.new) result };
 }
 
+impl Fetcher for Box<dyn Fetcher> {
+    ghost fetcher_state = { λ b. (Fetcher-box b).fetcher_state b.value };
+
+    fn fetch(&mut self, alloc: Global, digest: &Digest) -> Result<Fetched, ReadStop> {
+        (**self).fetch(alloc, digest)
+    }
+}
+
 /// A fetcher in memory, some of whose calls fail.
 #[derive(Drop)]
 pub struct MemFetcher {

@@ -9,12 +9,12 @@ use crate::replies::{Reply, reply_of};
 use osb_base::{Bytes, Digest, Fetched, Fetcher, NoMemory, ReadStop};
 use std::alloc::Global;
 
-fn fetch_from(
+fn fetch_from<F: Fetcher>(
     alloc: Global,
-    fetcher: &mut Box<dyn Fetcher>,
+    fetcher: &mut F,
     digest: &Digest,
 ) -> Result<Fetched, ReadStop>
-    ensures { IsFetch digest.now (fetcher_state fetcher.old) (fetcher_state fetcher.new) result }
+    ensures { IsFetch digest.now (F.fetcher_state fetcher.old) (F.fetcher_state fetcher.new) result }
 {
     fetcher.fetch(alloc, digest)
 }
@@ -29,14 +29,14 @@ fn is_gone(answer: &Result<Fetched, ReadStop>) -> bool
 }
 
 /// Asks the fetcher at a place. One that is gone is taken out and dropped.
-fn ask(
+fn ask<F: Fetcher>(
     alloc: Global,
-    fetchers: &mut Vec<Box<dyn Fetcher>>,
+    fetchers: &mut Vec<F>,
     at: usize,
     digest: &Digest,
 ) -> Result<Reply, NoMemory>
     requires { at < vec_len fetchers.old }
-    ensures asked { IsAsk digest.now at (map (λ b. fetcher_state b) fetchers.old.items) (map (λ b. fetcher_state b) fetchers.new.items) result }
+    ensures asked { IsAsk digest.now at (map F.fetcher_state fetchers.old.items) (map F.fetcher_state fetchers.new.items) result }
     ensures rest { IfOk result (λ reply. vec_len fetchers.new + 1 ≡ vec_len fetchers.old + moved reply) }
 {
     let answer = fetch_from(alloc, &mut fetchers[at], digest);
@@ -59,13 +59,13 @@ fn next_place(at: usize, reply: &Reply) -> usize
 }
 
 /// Asks the fetchers in order until one has the item's bytes. `own` is what is had of it elsewhere.
-pub fn search_fetchers(
+pub fn search_fetchers<F: Fetcher>(
     alloc: Global,
     digest: &Digest,
     own: &Reply,
-    fetchers: &mut Vec<Box<dyn Fetcher>>,
+    fetchers: &mut Vec<F>,
 ) -> Result<Bytes, SourceAnswer>
-    ensures { first_right (heard own.now) ≡ None → IsSearch digest.now (heard own.now) (map (λ b. fetcher_state b) fetchers.old.items) (map (λ b. fetcher_state b) fetchers.new.items) result }
+    ensures { first_right (heard own.now) ≡ None → IsSearch digest.now (heard own.now) (map F.fetcher_state fetchers.old.items) (map F.fetcher_state fetchers.new.items) result }
 {
     let mut notes = Notes::new().with(own);
     let mut at = 0;

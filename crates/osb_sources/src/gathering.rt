@@ -9,13 +9,13 @@ use crate::{Items, SourceAnswer};
 use osb_base::{Bytes, Digest, Fetcher, List};
 use std::alloc::Global;
 
-fn gather_one(
+fn gather_one<F: Fetcher>(
     alloc: Global,
     items: &Items,
     digest: &Digest,
-    fetchers: &mut Vec<Box<dyn Fetcher>>,
+    fetchers: &mut Vec<F>,
 ) -> Result<Bytes, SourceAnswer>
-    ensures { IsRound items.now digest.now (map (λ b. fetcher_state b) fetchers.old.items) (map (λ b. fetcher_state b) fetchers.new.items) result }
+    ensures { IsRound items.now digest.now (map F.fetcher_state fetchers.old.items) (map F.fetcher_state fetchers.new.items) result }
 {
     match look_inline(alloc, items, digest)? {
         Reply::Right(bytes) => Ok(bytes),
@@ -32,15 +32,15 @@ fn gather_one(
 /// The bytes of the wanted items, in order. The manifest's own text of an item is read first; the fetchers are asked
 /// for one that it lists as to be had elsewhere, unless that text decides. After the first item that is not had, no
 /// further one is looked for.
-pub fn gather(
+pub fn gather<F: Fetcher>(
     alloc: Global,
     items: &Items,
     wanted: &[Digest],
-    fetchers: &mut Vec<Box<dyn Fetcher>>,
+    fetchers: &mut Vec<F>,
 ) -> Result<List<Bytes>, SourceAnswer>
-    ensures gathers { Gathers items.now wanted.now (map (λ b. fetcher_state b) fetchers.old.items) (map (λ b. fetcher_state b) fetchers.new.items) result }
-    ensures left { IsThinned (map (λ b. fetcher_state b) fetchers.old.items) (map (λ b. fetcher_state b) fetchers.new.items) }
-    ensures cause { (digest : List ℕ) → result ≡ Err (SourceAnswer.Fault digest) → SomeRose (map (λ b. fetcher_state b) fetchers.old.items) (map (λ b. fetcher_state b) fetchers.new.items) }
+    ensures gathers { Gathers items.now wanted.now (map F.fetcher_state fetchers.old.items) (map F.fetcher_state fetchers.new.items) result }
+    ensures left { IsThinned (map F.fetcher_state fetchers.old.items) (map F.fetcher_state fetchers.new.items) }
+    ensures cause { (digest : List ℕ) → result ≡ Err (SourceAnswer.Fault digest) → SomeRose (map F.fetcher_state fetchers.old.items) (map F.fetcher_state fetchers.new.items) }
     ensures bytes { IfOk result (λ all. AreItems wanted.now all) }
 {
     let mut all = Vec::new(alloc);

@@ -7,7 +7,7 @@ use Rattle.osb_sources.proofs.asking.search_fetchers.Given as goal
 abbrev pub invariant-loop-at : goal.invariant-loop-at
 invariant-loop-at g l = record {
   within : l.at ≤ vec_len l.fetchers;
-  turn : first_right (heard l.own) ≡ None → IsTurn l.digest (heard l.own) (map (λ b. (goal.Fetcher-dyn g (b.vtable, b.value)).fetcher_state b.value) l.fn.fetchers.items) (map (λ b. (goal.Fetcher-dyn g (b.vtable, b.value)).fetcher_state b.value) l.fetchers.items) l.at l.notes;
+  turn : first_right (heard l.own) ≡ None → IsTurn l.digest (heard l.own) (map g.F.Fetcher.fetcher_state l.fn.fetchers.items) (map g.F.Fetcher.fetcher_state l.fetchers.items) l.at l.notes;
 }
 
 abbrev pub decreases-loop-at : goal.decreases-loop-at
