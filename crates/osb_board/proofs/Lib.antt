@@ -1,0 +1,5 @@
+pub mod States
+pub mod Claims
+pub mod Kept
+pub mod Waits
+pub mod Changes
