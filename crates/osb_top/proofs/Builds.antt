@@ -1,30 +1,33 @@
 -- A build by what its shelf gave, and by what the shelf holds.
-use Rattle.std.proofs.Common.{◌≡◌, ◌≢◌, slice_get, ℕ, ◌<◌, ◌==◌, cond, List, [], ◌∷◌, length, Option, Some, None, option_map, IfSome, Result, Ok, Err, MatchResult, sym, refl, ap, ◌∙◌, inl, inr, lit<, arith}
+use Rattle.std.proofs.Common.{◌≡◌, ◌≢◌, ℕ, ◌<◌, cond, List, [], length, Option, Some, None, option_map, IfSome, Result, Ok, Err, sym, refl, ap, ◌∙◌, subst, inl, inr, lit<, arith}
 use Rattle.std.proofs.lemmas.Bool.{cases_lt}
-use Rattle.std.specs.Map.{lookup}
-use Rattle.std.specs.Cmp.Lexicographic.{pointwise}
 use borrow.Author.Tests.{lt-ltb}
-use Rattle.osb_tree.specs.Trees.{Listing}
-use Rattle.osb_tree.specs.declared.faults.StageFault.{StageFault}
-use Rattle.osb_base.specs.Shelves.{Files, file_of, cut}
+use Rattle.osb_base.specs.Shelves.{file_of, cut}
+use Rattle.osb_base.specs.Fetchers.{FetcherState}
 use Rattle.osb_base.proofs.Cuts.{cut_short, cut_long}
 use Rattle.osb_shape.specs.Places.{place_text}
+use Rattle.osb_sources.specs.Rounds.{Gathers, unfinished, SomeRose}
+use Rattle.osb_sources.specs.declared.answers.SourceAnswer.{SourceAnswer}
+use Rattle.osb_sources.specs.declared.answers.SourceAnswer.TheVariants as answers
 use Rattle.osb_manifest.specs.Manifests.{json_of, manifest_of, value_read}
 use Rattle.osb_manifest.specs.Needed.{needed}
+use Rattle.osb_manifest.specs.Solo.{solo}
+use Rattle.osb_manifest.specs.Wanted.{wanted}
 use Rattle.osb_manifest.specs.declared.manifests.Manifest.{Manifest}
-use Rattle.osb_manifest.specs.declared.manifests.Pipeline.{Pipeline}
 use Rattle.osb_manifest.specs.declared.manifests.Refusal.{Refusal}
 use Rattle.osb_manifest.specs.declared.manifests.Refusal.TheVariants.{TooLong}
 use Rattle.osb_manifest.specs.declared.exports.NoSuchExport.{NoSuchExport as Lacks}
 use Rattle.osb_manifest.specs.declared.exports.NoSuchExport.TheVariants as lacks
-use Rattle.osb_top.specs.Answers.{ok_map, exports_due, manifest_due, needed_due, built_due, exports_of, with_export, trees_of, and_trees, named_tree, tree_of, built, pipeline_tree}
-use Rattle.osb_top.specs.Runs.{ShelfSeen}
+use Rattle.std.specs.List.{zip}
+use Rattle.osb_top.specs.Answers.{Asked, asked, asked_by, exports_due, manifest_due, needed_due, gathered_due, built_due, IsDue}
+use Rattle.osb_top.specs.Runs.{ShelfSeen, FetchersSeen, MayBeUnbuilt}
 use Rattle.osb_top.specs.Steps.{IsBuild}
-use Rattle.osb_top.proofs.Givens.{NoFault, given_read}
+use Rattle.osb_top.proofs.Due.{IsOfBuild, built_due-of_build, source_fault}
+use Rattle.osb_top.proofs.Givens.{NoFault, found_under, held_under, due_under, by_due}
 use Rattle.osb_top.specs.declared.words.Request.{Request}
 use Rattle.osb_top.specs.declared.answers.Export.{Export}
 use Rattle.osb_top.specs.declared.answers.Unbuilt.{Unbuilt}
-use Rattle.osb_top.specs.declared.answers.Unbuilt.TheVariants.{Absent, ReadFault, Refused, NoSuchExport, Failed, NoMemory}
+use Rattle.osb_top.specs.declared.answers.Unbuilt.TheVariants.{NoMemory}
 
 -- ---- a manifest that is cut one byte past the limit is refused as the whole one is
 
@@ -40,64 +43,67 @@ manifest_of-cut bytes = elim (cases_lt 16777216 (length bytes)) [
     cut_stays_long : (bytes : List ℕ) → 16777216 < length bytes → 16777216 < length (cut bytes)
     cut_stays_long bytes long = rw (cut_long bytes (omega arith)) (lit< tt)
 
-pub exports_due-cut : (found : Option (List ℕ)) (names : List (List ℕ)) → exports_due (option_map cut found) names ≡ exports_due found names
-exports_due-cut None names = refl
-exports_due-cut (Some bytes) names = ap (manifest_due names) (manifest_of-cut bytes)
+pub exports_due-cut : (gathered : Result (List (List ℕ)) SourceAnswer) (names : List (List ℕ)) (found : Option (List ℕ)) → exports_due (option_map cut found) names gathered ≡ exports_due found names gathered
+exports_due-cut gathered names None = refl
+exports_due-cut gathered names (Some bytes) = ap (λ read. manifest_due names read gathered) (manifest_of-cut bytes)
+
+-- nor does it ask for other items
+pub asked-cut : (names : List (List ℕ)) (found : Option (List ℕ)) → asked (option_map cut found) names ≡ asked found names
+asked-cut names None = refl
+asked-cut names (Some bytes) = ap (asked_by names) (manifest_of-cut bytes)
 
 -- ---- what is due is no fault of the outside
 
-built-fault : (name : List ℕ) (result : Result Listing (ℕ × StageFault)) → NoFault (built name result)
-built-fault name (Ok listing) e = cc
-built-fault name (Err failure) e = cc
+gathered_due-fault : (names : List (List ℕ)) (manifest : Manifest) (places : List ℕ) (gathered : Result (List (List ℕ)) SourceAnswer) → NoFault (gathered_due names manifest places gathered)
+gathered_due-fault names manifest places (Ok blobs) e = subst IsOfBuild e (built_due-of_build names manifest (solo manifest places (zip (wanted manifest places) blobs)))
+gathered_due-fault names manifest places (Err (answers.Missing digest)) e = cc
+gathered_due-fault names manifest places (Err (answers.Wrong digest)) e = cc
+gathered_due-fault names manifest places (Err (answers.Fault digest)) e = cc
+gathered_due-fault names manifest places (Err (answers.BadBase64 digest)) e = cc
+gathered_due-fault names manifest places (Err (answers.ItemTooLarge digest)) e = cc
+gathered_due-fault names manifest places (Err answers.NoMemory) e = cc
 
-named_tree-fault : (name : List ℕ) (tree : Result Listing Unbuilt) → NoFault tree → NoFault (ok_map (named_tree name) tree)
-named_tree-fault name (Ok tree) this e = cc
-named_tree-fault name (Err unbuilt) this e = this (cc)
+needed_due-fault : (names : List (List ℕ)) (manifest : Manifest) (places : Result (List ℕ) Lacks) (gathered : Result (List (List ℕ)) SourceAnswer) → NoFault (needed_due names manifest places gathered)
+needed_due-fault names manifest (Ok places) gathered e = gathered_due-fault names manifest places gathered e
+needed_due-fault names manifest (Err (lacks.Lacking name)) gathered e = cc
+needed_due-fault names manifest (Err lacks.NoMemory) gathered e = cc
 
-tree_of-fault : (pipeline : Option (List ℕ × Pipeline)) → NoFault (tree_of pipeline)
-tree_of-fault None e = cc
-tree_of-fault (Some pipeline) e = named_tree-fault pipeline.0 (built pipeline.0 (pipeline_tree pipeline.1.stages)) (built-fault pipeline.0 (pipeline_tree pipeline.1.stages)) e
+manifest_due-fault : (names : List (List ℕ)) (read : Result Manifest Refusal) (gathered : Result (List (List ℕ)) SourceAnswer) → NoFault (manifest_due names read gathered)
+manifest_due-fault names (Ok manifest) gathered e = needed_due-fault names manifest (needed manifest names) gathered e
+manifest_due-fault names (Err refusal) gathered e = cc
 
-and_trees-fault : (trees others : Result (List (List ℕ × Listing)) Unbuilt) → NoFault trees → NoFault others → NoFault (and_trees trees others)
-and_trees-fault (Ok trees) (Ok more) these those e = cc
-and_trees-fault (Ok trees) (Err unbuilt) these those e = those (cc)
-and_trees-fault (Err unbuilt) others these those e = these (cc)
-
-trees_of-fault : (pipelines : List (List ℕ × Pipeline)) (places : List ℕ) → NoFault (trees_of pipelines places)
-trees_of-fault pipelines [] e = cc
-trees_of-fault pipelines (place ∷ places) e =
-    and_trees-fault (tree_of (slice_get pipelines place)) (trees_of pipelines places) (tree_of-fault (slice_get pipelines place)) (trees_of-fault pipelines places) e
-
-with_export-fault : (name : List ℕ) (tree : Option Listing) (others : Result (List Export) Unbuilt) → NoFault others → NoFault (with_export name tree others)
-with_export-fault name None others those e = cc
-with_export-fault name (Some tree) (Ok exports) those e = cc
-with_export-fault name (Some tree) (Err unbuilt) those e = those (cc)
-
-exports_of-fault : (trees : List (List ℕ × Listing)) (names : List (List ℕ)) → NoFault (exports_of trees names)
-exports_of-fault trees [] e = cc
-exports_of-fault trees (name ∷ names) e = with_export-fault name (lookup (pointwise ◌==◌ name) trees) (exports_of trees names) (exports_of-fault trees names) e
-
-built_due-fault : (names : List (List ℕ)) (trees : Result (List (List ℕ × Listing)) Unbuilt) → NoFault trees → NoFault (built_due names trees)
-built_due-fault names (Ok trees) those e = exports_of-fault trees names e
-built_due-fault names (Err unbuilt) those e = those (cc)
-
-needed_due-fault : (names : List (List ℕ)) (manifest : Manifest) (places : Result (List ℕ) Lacks) → NoFault (needed_due names manifest places)
-needed_due-fault names manifest (Ok places) e = built_due-fault names (trees_of manifest.pipelines places) (trees_of-fault manifest.pipelines places) e
-needed_due-fault names manifest (Err (lacks.Lacking name)) e = cc
-needed_due-fault names manifest (Err lacks.NoMemory) e = cc
-
-manifest_due-fault : (names : List (List ℕ)) (read : Result Manifest Refusal) → NoFault (manifest_due names read)
-manifest_due-fault names (Ok manifest) e = needed_due-fault names manifest (needed manifest names) e
-manifest_due-fault names (Err refusal) e = cc
-
-exports_due-fault : (found : Option (List ℕ)) (names : List (List ℕ)) → NoFault (exports_due found names)
-exports_due-fault None names e = cc
-exports_due-fault (Some bytes) names e = manifest_due-fault names (manifest_of bytes) e
+exports_due-fault : (found : Option (List ℕ)) (names : List (List ℕ)) (gathered : Result (List (List ℕ)) SourceAnswer) → NoFault (exports_due found names gathered)
+exports_due-fault None names gathered e = cc
+exports_due-fault (Some bytes) names gathered e = manifest_due-fault names (manifest_of bytes) gathered e
 
 -- ---- builds
 
 -- a manifest that was read
-pub build_read : (shelf : ShelfSeen) (request : Request) (given : Option (List ℕ)) (result : Result (List Export) Unbuilt) → IfSome shelf.files (λ files. given ≡ option_map cut (file_of files request.manifest)) → (result ≢ Err NoMemory → result ≡ exports_due given request.exports) → IsBuild shelf request result
-build_read shelf request given result held h =
-    given_read shelf request.manifest (λ found. exports_due found request.exports) given result
-    (λ found. exports_due-fault found request.exports) (λ found. exports_due-cut found request.exports) held h
+pub build_read : (shelf : ShelfSeen) (fetchers : FetchersSeen) (request : Request) (given : Option (List ℕ)) (result : Result (List Export) Unbuilt) → IfSome shelf.files (λ files. given ≡ option_map cut (file_of files request.manifest))
+    → IsDue given request.exports fetchers.before fetchers.now result → ((digest : List ℕ) → result ≡ source_fault digest → SomeRose fetchers.before fetchers.now) → IsBuild shelf fetchers request result
+build_read shelf fetchers request given result held due cause =
+    let found = found_under shelf.files request.manifest given in
+    let asks : asked given request.exports ≡ asked found request.exports = due_under (λ f. asked f request.exports) shelf.files request.manifest given (asked-cut request.exports) held in
+    record {
+      found = found;
+      read = held_under shelf.files request.manifest given;
+      gathered = due.gathered;
+      gathers = subst (λ (a : Asked). Gathers a.items a.digests fetchers.before fetchers.now due.gathered) asks due.gathers;
+      given = by_due shelf (exports_due found request.exports due.gathered) result (exports_due-fault found request.exports due.gathered)
+          (λ n. due.answer n ∙ due_under (λ f. exports_due f request.exports due.gathered) shelf.files request.manifest given (exports_due-cut due.gathered request.exports) held);
+      cause = cause;
+    }
+
+-- one that was not
+pub build_unread : (shelf : ShelfSeen) (fetchers : FetchersSeen) (request : Request) (unbuilt : Unbuilt) → fetchers.now ≡ fetchers.before → ((what : Result (List Export) Unbuilt) → MayBeUnbuilt shelf what unbuilt) → ((digest : List ℕ) → Err unbuilt ≡ source_fault digest → ⊥) → IsBuild shelf fetchers request (Err unbuilt)
+build_unread shelf fetchers request unbuilt same may other =
+    let found = found_under shelf.files request.manifest None in
+    let asks = asked found request.exports in
+    record {
+      found = found;
+      read = held_under shelf.files request.manifest None;
+      gathered = Err answers.NoMemory;
+      gathers = subst (λ (now : List FetcherState). Gathers asks.items asks.digests fetchers.before now (Err answers.NoMemory)) (sym same) (unfinished asks.digests fetchers.before);
+      given = may (exports_due found request.exports (Err answers.NoMemory));
+      cause = λ digest e. absurd (other digest e);
+    }

@@ -4,7 +4,7 @@ use Rattle.osb_base.specs.Shelves.{Files, file_of, cut}
 use Rattle.osb_top.specs.Runs.{ShelfSeen, MayBeUnbuilt}
 use Rattle.osb_top.specs.Steps.{IsGiven}
 use Rattle.osb_top.specs.declared.answers.Unbuilt.{Unbuilt}
-use Rattle.osb_top.specs.declared.answers.Unbuilt.TheVariants.{Absent, ReadFault, Refused, NoSuchExport, Failed, NoMemory}
+use Rattle.osb_top.specs.declared.answers.Unbuilt.TheVariants.{Absent, ReadFault, Refused, NoSuchExport, Source, Failed, NoMemory}
 
 -- neither a result nor another error is a read fault
 abbrev pub NoFault : {A : Type 0} → Result A Unbuilt → Type 0
@@ -16,22 +16,23 @@ abbrev pub found_under : Option Files → List ℕ → Option (List ℕ) → Opt
 found_under None name given = given
 found_under (Some files) name given = file_of files name
 
-held_under : (held : Option Files) (name : List ℕ) (given : Option (List ℕ)) → IfSome held (λ files. found_under held name given ≡ file_of files name)
+pub held_under : (held : Option Files) (name : List ℕ) (given : Option (List ℕ)) → IfSome held (λ files. found_under held name given ≡ file_of files name)
 held_under None name given = tt
 held_under (Some files) name given = refl
 
-due_under : {A : Type 0} (due : Option (List ℕ) → Result A Unbuilt) (held : Option Files) (name : List ℕ) (given : Option (List ℕ)) → ((found : Option (List ℕ)) → due (option_map cut found) ≡ due found) → IfSome held (λ files. given ≡ option_map cut (file_of files name)) → due given ≡ due (found_under held name given)
+pub due_under : {B : Type 0} (due : Option (List ℕ) → B) (held : Option Files) (name : List ℕ) (given : Option (List ℕ)) → ((found : Option (List ℕ)) → due (option_map cut found) ≡ due found) → IfSome held (λ files. given ≡ option_map cut (file_of files name)) → due given ≡ due (found_under held name given)
 due_under due None name given cuts h = refl
 due_under due (Some files) name given cuts h = ap due h ∙ cuts (file_of files name)
 
 -- ---- results
 
-by_due : {A : Type 0} (shelf : ShelfSeen) (due result : Result A Unbuilt) → NoFault due → (result ≢ Err NoMemory → result ≡ due) → MatchResult result (λ value. due ≡ Ok value) (MayBeUnbuilt shelf due)
+pub by_due : {A : Type 0} (shelf : ShelfSeen) (due result : Result A Unbuilt) → NoFault due → (result ≢ Err NoMemory → result ≡ due) → MatchResult result (λ value. due ≡ Ok value) (MayBeUnbuilt shelf due)
 by_due shelf due (Ok value) fault h = sym (h (λ e. cc))
 by_due shelf due (Err Absent) fault h = sym (h (λ e. cc))
 by_due shelf due (Err ReadFault) fault h = absurd (fault (sym (h (λ e. cc))))
 by_due shelf due (Err (Refused refusal)) fault h = sym (h (λ e. cc))
 by_due shelf due (Err (NoSuchExport name)) fault h = sym (h (λ e. cc))
+by_due shelf due (Err (Source answer)) fault h = sym (h (λ e. cc))
 by_due shelf due (Err (Failed pipeline stage fault')) fault h = sym (h (λ e. cc))
 by_due shelf due (Err NoMemory) fault h = tt
 

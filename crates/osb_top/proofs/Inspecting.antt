@@ -8,7 +8,7 @@ use Rattle.osb_top.specs.Runs.{ShelfSeen, SinkSeen, MayBeUnbuilt, IsWritten, End
 use Rattle.osb_top.specs.Inspects.{read_due, inspect_due, inspect_out, inspect_status, IsInspected, Inspects}
 use Rattle.osb_top.specs.Steps.{IsInspection, WritesInspected}
 use Rattle.osb_top.specs.declared.answers.Unbuilt.{Unbuilt}
-use Rattle.osb_top.specs.declared.answers.Unbuilt.TheVariants.{Absent, ReadFault, Refused, NoSuchExport, Failed, NoMemory}
+use Rattle.osb_top.specs.declared.answers.Unbuilt.TheVariants.{Absent, ReadFault, Refused, NoSuchExport, Source, Failed, NoMemory}
 use Rattle.osb_top.proofs.Builds.{manifest_of-cut}
 use Rattle.osb_top.proofs.Givens.{NoFault, given_read}
 
@@ -39,6 +39,7 @@ by_result shelf sink due (Err Absent) status given (inl written) = due_written s
 by_result shelf sink due (Err ReadFault) status given (inl written) = inr (given, inl written.1)
 by_result shelf sink due (Err (Refused refusal)) status given (inl written) = due_written shelf sink due (Err (Refused refusal)) status given written.1
 by_result shelf sink due (Err (NoSuchExport name)) status given (inl written) = due_written shelf sink due (Err (NoSuchExport name)) status given written.1
+by_result shelf sink due (Err (Source answer)) status given (inl written) = due_written shelf sink due (Err (Source answer)) status given written.1
 by_result shelf sink due (Err (Failed pipeline stage fault)) status given (inl written) = due_written shelf sink due (Err (Failed pipeline stage fault)) status given written.1
 by_result shelf sink due (Err NoMemory) status given (inl written) = absurd (written.0 refl)
 

@@ -1,22 +1,28 @@
--- What is due for one manifest and its exports: a function of the bytes under the manifest's name and of the export
--- names.
-use Rattle.std.specs.Prelude.{ℕ, ◌+◌, ◌==◌, List, [], ◌∷◌, ◌++◌, slice_get, Option, Some, None, Result, Ok, Err}
+-- What is due for one manifest and its exports: a function of the bytes under the manifest's name, of the export names,
+-- and of what was gathered of the items that it asks for.
+use Rattle.std.specs.Prelude.{◌≡◌, ◌≢◌, ℕ, ◌==◌, List, [], ◌∷◌, slice_get, Option, Some, None, Result, Ok, Err}
+use Rattle.std.specs.Option.{option_or}
+use Rattle.std.specs.List.{filter_map, zip}
 use Rattle.std.specs.Cmp.Lexicographic.{pointwise}
-use Rattle.std.specs.Map.{lookup}
-use Rattle.osb_tree.specs.Trees.{Listing, empty_tree}
-use Rattle.osb_tree.specs.declared.faults.StageFault.{StageFault}
-use Rattle.osb_tree.specs.declared.faults.Inputs.{Inputs}
-use Rattle.osb_recipe.specs.Kinds.{effect}
+use Rattle.std.specs.Map.{keys_of, lookup}
+use Rattle.osb_tree.specs.Trees.{Listing}
+use Rattle.osb_base.specs.Fetchers.{FetcherState}
+use Rattle.osb_recipe.specs.declared.outcomes.Outcome.{Outcome}
+use Rattle.osb_recipe.specs.declared.outcomes.Outcome.TheVariants as outcomes
+use Rattle.osb_sources.specs.Rounds.{Gathers}
+use Rattle.osb_sources.specs.declared.items.Items.{Items}
+use Rattle.osb_sources.specs.declared.answers.SourceAnswer.{SourceAnswer}
+use Rattle.osb_sources.specs.declared.answers.SourceAnswer.TheVariants as answers
 use Rattle.osb_manifest.specs.Manifests.{manifest_of}
 use Rattle.osb_manifest.specs.Needed.{needed}
+use Rattle.osb_manifest.specs.Wanted.{wanted}
+use Rattle.osb_manifest.specs.Solo.{Built, tree_of, both, solo}
 use Rattle.osb_manifest.specs.declared.manifests.Manifest.{Manifest}
-use Rattle.osb_manifest.specs.declared.manifests.Pipeline.{Pipeline}
-use Rattle.osb_manifest.specs.declared.manifests.Stage.{Stage}
 use Rattle.osb_manifest.specs.declared.manifests.Refusal.{Refusal}
 use Rattle.osb_manifest.specs.declared.exports.NoSuchExport.{NoSuchExport as Lacks}
 use Rattle.osb_manifest.specs.declared.exports.NoSuchExport.TheVariants as lacks
 use Rattle.osb_top.specs.declared.answers.Unbuilt.{Unbuilt}
-use Rattle.osb_top.specs.declared.answers.Unbuilt.TheVariants.{Absent, Refused, NoSuchExport, Failed, NoMemory}
+use Rattle.osb_top.specs.declared.answers.Unbuilt.TheVariants.{Absent, Refused, NoSuchExport, Source, Failed, NoMemory}
 use Rattle.osb_top.specs.declared.answers.Export.{Export}
 
 -- what a result has in it, made into something else
@@ -24,49 +30,51 @@ abbrev pub ok_map : {A B E : Type 0} → (A → B) → Result A E → Result B E
 ok_map f (Ok value) = Ok (f value)
 ok_map f (Err error) = Err error
 
--- ---- one pipeline
+-- ---- what is gathered
 
--- no stage has an input so far
-abbrev pub no_inputs : Inputs
-no_inputs = record { trees = [] }
+-- some items of a manifest, by digest
+pub record Asked : Type 0 where
+  pub items : Items
+  pub digests : List (List ℕ)
 
--- a stage's fault, with its place; where it has none, the later stages follow
-abbrev pub after_stage : ℕ → (Listing → Result Listing (ℕ × StageFault)) → Result Listing StageFault → Result Listing (ℕ × StageFault)
-after_stage place later (Ok listing) = later listing
-after_stage place later (Err fault) = Err (place, fault)
+abbrev pub nothing_asked : Asked
+nothing_asked = record { items = record { inline = []; curl = [] }; digests = [] }
 
--- the tree that stages make, one after another, or the first fault
-abbrev pub stages_from : ℕ → List Stage → Listing → Result Listing (ℕ × StageFault)
-stages_from place [] listing = Ok listing
-stages_from place (stage ∷ stages) listing = after_stage place (stages_from (place + 1) stages) (effect stage.kind no_inputs listing)
+abbrev pub asked_of : Manifest → Result (List ℕ) Lacks → Asked
+asked_of manifest (Ok places) = record { items = manifest.items; digests = wanted manifest places }
+asked_of manifest (Err lacks) = nothing_asked
 
--- a pipeline's stages start from the empty tree, and have places from 0
-abbrev pub pipeline_tree : List Stage → Result Listing (ℕ × StageFault)
-pipeline_tree stages = stages_from 0 stages empty_tree
+abbrev pub asked_by : List (List ℕ) → Result Manifest Refusal → Asked
+asked_by names (Ok manifest) = asked_of manifest (needed manifest names)
+asked_by names (Err refusal) = nothing_asked
+
+-- the items that the exports of these names need, where these bytes stand under the manifest's name; nothing is asked
+-- for where there is no manifest, or one export of it is lacking
+abbrev pub asked : Option (List ℕ) → List (List ℕ) → Asked
+asked None names = nothing_asked
+asked (Some bytes) names = asked_by names (manifest_of bytes)
 
 -- ---- the needed pipelines
 
--- what is due of a pipeline of a name
-abbrev pub built : List ℕ → Result Listing (ℕ × StageFault) → Result Listing Unbuilt
-built name (Ok listing) = Ok listing
-built name (Err failure) = Err (Failed name failure.0 failure.1)
+abbrev pub name_at : Manifest → ℕ → Option (List ℕ)
+name_at manifest place = slice_get (keys_of manifest.pipelines) place
 
-abbrev pub named_tree : List ℕ → Listing → List (List ℕ × Listing)
-named_tree name tree = (name, tree) ∷ []
+-- what is due for a pipeline of a name whose stage has a fault
+abbrev pub failure_of : Option (List ℕ) → Outcome → Option Unbuilt
+failure_of (Some name) (outcomes.Fault stage fault) = Some (Failed name stage fault)
+failure_of name outcome = None
 
--- the tree of a pipeline, with its name; none where there is no pipeline
-abbrev pub tree_of : Option (List ℕ × Pipeline) → Result (List (List ℕ × Listing)) Unbuilt
-tree_of None = Ok []
-tree_of (Some pipeline) = ok_map (named_tree pipeline.0) (built pipeline.0 (pipeline_tree pipeline.1.stages))
+-- the first failure, in the order of the manifest
+abbrev pub first_failure : Manifest → Built → Option Unbuilt
+first_failure manifest [] = None
+first_failure manifest (entry ∷ built) = option_or (failure_of (name_at manifest entry.0) entry.1) (first_failure manifest built)
 
-abbrev pub and_trees : Result (List (List ℕ × Listing)) Unbuilt → Result (List (List ℕ × Listing)) Unbuilt → Result (List (List ℕ × Listing)) Unbuilt
-and_trees (Ok trees) others = ok_map (λ more. trees ++ more) others
-and_trees (Err unbuilt) others = Err unbuilt
+abbrev pub with_name : Option (List ℕ) → Option Listing → Option (List ℕ × Listing)
+with_name name tree = both (λ n t. (n, t)) name tree
 
--- the trees of the pipelines at some places, by name, or why the first of them has none
-abbrev pub trees_of : List (List ℕ × Pipeline) → List ℕ → Result (List (List ℕ × Listing)) Unbuilt
-trees_of pipelines [] = Ok []
-trees_of pipelines (place ∷ places) = and_trees (tree_of (slice_get pipelines place)) (trees_of pipelines places)
+-- the trees that there are, by name
+abbrev pub named_trees : Manifest → Built → List (List ℕ × Listing)
+named_trees manifest built = filter_map (λ entry. with_name (name_at manifest entry.0) (tree_of entry.1)) built
 
 -- ---- the exports
 
@@ -79,21 +87,36 @@ abbrev pub exports_of : List (List ℕ × Listing) → List (List ℕ) → Resul
 exports_of trees [] = Ok []
 exports_of trees (name ∷ names) = with_export name (lookup (pointwise ◌==◌ name) trees) (exports_of trees names)
 
-abbrev pub built_due : List (List ℕ) → Result (List (List ℕ × Listing)) Unbuilt → Result (List Export) Unbuilt
-built_due names (Ok trees) = exports_of trees names
-built_due names (Err unbuilt) = Err unbuilt
+abbrev pub unless_failed : Option Unbuilt → Result (List Export) Unbuilt → Result (List Export) Unbuilt
+unless_failed None exports = exports
+unless_failed (Some failure) exports = Err failure
 
-abbrev pub needed_due : List (List ℕ) → Manifest → Result (List ℕ) Lacks → Result (List Export) Unbuilt
-needed_due names manifest (Ok places) = built_due names (trees_of manifest.pipelines places)
-needed_due names manifest (Err (lacks.Lacking name)) = Err (NoSuchExport name)
-needed_due names manifest (Err lacks.NoMemory) = Err NoMemory
+-- the first failure, or else the exports with their trees
+abbrev pub built_due : List (List ℕ) → Manifest → Built → Result (List Export) Unbuilt
+built_due names manifest built = unless_failed (first_failure manifest built) (exports_of (named_trees manifest built) names)
 
-abbrev pub manifest_due : List (List ℕ) → Result Manifest Refusal → Result (List Export) Unbuilt
-manifest_due names (Ok manifest) = needed_due names manifest (needed manifest names)
-manifest_due names (Err refusal) = Err (Refused refusal)
+abbrev pub gathered_due : List (List ℕ) → Manifest → List ℕ → Result (List (List ℕ)) SourceAnswer → Result (List Export) Unbuilt
+gathered_due names manifest places (Ok blobs) = built_due names manifest (solo manifest places (zip (wanted manifest places) blobs))
+gathered_due names manifest places (Err answers.NoMemory) = Err NoMemory
+gathered_due names manifest places (Err answer) = Err (Source answer)
+
+abbrev pub needed_due : List (List ℕ) → Manifest → Result (List ℕ) Lacks → Result (List (List ℕ)) SourceAnswer → Result (List Export) Unbuilt
+needed_due names manifest (Ok places) gathered = gathered_due names manifest places gathered
+needed_due names manifest (Err (lacks.Lacking name)) gathered = Err (NoSuchExport name)
+needed_due names manifest (Err lacks.NoMemory) gathered = Err NoMemory
+
+abbrev pub manifest_due : List (List ℕ) → Result Manifest Refusal → Result (List (List ℕ)) SourceAnswer → Result (List Export) Unbuilt
+manifest_due names (Ok manifest) gathered = needed_due names manifest (needed manifest names) gathered
+manifest_due names (Err refusal) gathered = Err (Refused refusal)
 
 -- the exports with their trees, or why there are none, where these bytes stand under the manifest's name, or where none
--- stand there
-abbrev pub exports_due : Option (List ℕ) → List (List ℕ) → Result (List Export) Unbuilt
-exports_due None names = Err Absent
-exports_due (Some bytes) names = manifest_due names (manifest_of bytes)
+-- stand there, by what was gathered of the items that are asked for
+abbrev pub exports_due : Option (List ℕ) → List (List ℕ) → Result (List (List ℕ)) SourceAnswer → Result (List Export) Unbuilt
+exports_due None names gathered = Err Absent
+exports_due (Some bytes) names gathered = manifest_due names (manifest_of bytes) gathered
+
+-- the fetchers before, those left, and the exports or why there are none
+pub record IsDue (found : Option (List ℕ)) (names : List (List ℕ)) (before now : List FetcherState) (result : Result (List Export) Unbuilt) : Type 0 where
+  pub gathered : Result (List (List ℕ)) SourceAnswer
+  pub gathers : Gathers (asked found names).items (asked found names).digests before now gathered
+  pub answer : result ≢ Err NoMemory → result ≡ exports_due found names gathered

@@ -1,5 +1,6 @@
 pub mod Exports
 pub mod Answers
+pub mod Ready
 pub mod Lines
 pub mod Runs
 pub mod Inspects

@@ -10,8 +10,11 @@ use Rattle.osb_tree.specs.declared.faults.StageFault.TheVariants as faults
 use Rattle.osb_manifest.specs.declared.manifests.Refusal.{Refusal}
 use Rattle.osb_manifest.specs.declared.manifests.Refusal.TheVariants as refusals
 use Rattle.osb_pyjson.specs.PyText.{py_quoted}
+use Rattle.osb_base.specs.Digests.{digest_text}
+use Rattle.osb_sources.specs.declared.answers.SourceAnswer.{SourceAnswer}
+use Rattle.osb_sources.specs.declared.answers.SourceAnswer.TheVariants as sources
 use Rattle.osb_top.specs.declared.answers.Unbuilt.{Unbuilt}
-use Rattle.osb_top.specs.declared.answers.Unbuilt.TheVariants.{Absent, ReadFault, Refused, NoSuchExport, Failed, NoMemory}
+use Rattle.osb_top.specs.declared.answers.Unbuilt.TheVariants.{Absent, ReadFault, Refused, NoSuchExport, Source, Failed, NoMemory}
 use Rattle.osb_top.specs.declared.answers.Export.{Export}
 use Rattle.osb_top.specs.declared.answers.ExportAnswer.{ExportAnswer}
 use Rattle.osb_top.specs.declared.answers.ExportAnswer.TheVariants as export_answers
@@ -41,7 +44,12 @@ refusal_words (refusals.TooMany place) = numbered 5 place
 refusal_words (refusals.Member place name) = numbered 6 place ++ (codes " " ++ py_quoted name)
 refusal_words (refusals.BadNumber place) = numbered 7 place
 refusal_words (refusals.DuplicatePipeline place) = numbered 8 place
+refusal_words (refusals.UnknownReference place) = numbered 9 place
 refusal_words (refusals.UnknownStage place) = numbered 10 place
+refusal_words (refusals.UnknownInput place) = numbered 11 place
+refusal_words (refusals.UnknownSource place) = numbered 12 place
+refusal_words (refusals.BadChecksum place) = numbered 13 place
+refusal_words (refusals.Encoding place) = numbered 14 place
 refusal_words (refusals.Options place fault) = numbered 15 place ++ (codes " " ++ option_words fault)
 refusal_words (refusals.NotYet place) = numbered 16 place
 refusal_words refusals.NoMemory = codes "want of memory"
@@ -62,11 +70,21 @@ fault_words (faults.Asked number) = codes "11 " ++ decimal number
 fault_words faults.TreeTooLarge = codes "12"
 fault_words faults.NoMemory = codes "want of memory"
 
+-- what is wrong with an item, and its digest
+abbrev pub source_words : SourceAnswer → List ℕ
+source_words (sources.Missing digest) = codes "source missing " ++ digest_text digest
+source_words (sources.Wrong digest) = codes "source wrong " ++ digest_text digest
+source_words (sources.Fault digest) = codes "source fault " ++ digest_text digest
+source_words (sources.BadBase64 digest) = codes "bad base64 " ++ digest_text digest
+source_words (sources.ItemTooLarge digest) = codes "item too large " ++ digest_text digest
+source_words sources.NoMemory = codes "want of memory"
+
 abbrev pub unbuilt_words : Unbuilt → List ℕ
 unbuilt_words Absent = codes "absent"
 unbuilt_words ReadFault = codes "read fault"
 unbuilt_words (Refused refusal) = codes "refused " ++ refusal_words refusal
 unbuilt_words (NoSuchExport name) = codes "no such export " ++ py_quoted name
+unbuilt_words (Source answer) = source_words answer
 unbuilt_words (Failed pipeline stage fault) = codes "failed " ++ (pipeline ++ (codes " " ++ (decimal stage ++ (codes " " ++ fault_words fault))))
 unbuilt_words NoMemory = codes "want of memory"
 

@@ -5,14 +5,18 @@ use Rattle.osb_base.specs.Shelves.{Files, file_of}
 use Rattle.osb_shape.specs.Forms.{is_pipeline_name}
 use Rattle.osb_manifest.specs.Needed.{is_among}
 use Rattle.osb_top.specs.Exports.{ExporterSeen, Count, HasRisen, AreExported}
-use Rattle.osb_top.specs.Answers.{exports_due}
+use Rattle.osb_top.specs.Answers.{asked, exports_due}
+use Rattle.osb_base.specs.Fetchers.{FetcherState}
+use Rattle.osb_sources.specs.Rounds.{Gathers, SomeRose}
+use Rattle.osb_sources.specs.declared.answers.SourceAnswer.{SourceAnswer}
+use Rattle.osb_sources.specs.declared.answers.SourceAnswer.TheVariants.{Fault as SourceFault}
 use Rattle.osb_top.specs.Lines.{answer_lines}
 use Rattle.osb_top.specs.declared.words.Request.{Request}
 use Rattle.osb_top.specs.declared.answers.Export.{Export}
 use Rattle.osb_top.specs.declared.answers.ExportAnswer.{ExportAnswer}
 use Rattle.osb_top.specs.declared.answers.ExportAnswer.TheVariants.{Exported, Fault, NoMemory as NoMemoryLeft}
 use Rattle.osb_top.specs.declared.answers.Unbuilt.{Unbuilt}
-use Rattle.osb_top.specs.declared.answers.Unbuilt.TheVariants.{Absent, ReadFault, Refused, NoSuchExport, Failed, NoMemory}
+use Rattle.osb_top.specs.declared.answers.Unbuilt.TheVariants.{Absent, ReadFault, Refused, NoSuchExport, Source, Failed, NoMemory}
 use Rattle.osb_top.specs.declared.answers.Answer.{Answer}
 use Rattle.osb_top.specs.declared.answers.Answer.TheVariants as builds
 
@@ -55,6 +59,11 @@ pub record SinkSeen : Type 0 where
   pub now : Option (List ℕ)
   pub faults : Count
 
+-- the fetchers in the list
+pub record FetchersSeen : Type 0 where
+  pub before : List FetcherState
+  pub now : List FetcherState
+
 -- ---- answers
 
 -- why there may be nothing: as is due, or by a fault of the shelf, or for want of memory
@@ -62,6 +71,7 @@ abbrev pub MayBeUnbuilt : {A : Type 0} → ShelfSeen → Result A Unbuilt → Un
 MayBeUnbuilt shelf due Absent = due ≡ Err Absent
 MayBeUnbuilt shelf due (Refused refusal) = due ≡ Err (Refused refusal)
 MayBeUnbuilt shelf due (NoSuchExport name) = due ≡ Err (NoSuchExport name)
+MayBeUnbuilt shelf due (Source answer) = due ≡ Err (Source answer)
 MayBeUnbuilt shelf due (Failed pipeline stage fault) = due ≡ Err (Failed pipeline stage fault)
 MayBeUnbuilt shelf due ReadFault = HasRisen shelf.faults
 MayBeUnbuilt shelf due NoMemory = Unit {0}
@@ -70,6 +80,10 @@ MayBeUnbuilt shelf due NoMemory = Unit {0}
 abbrev pub MayAnswer : ShelfSeen → Result (List Export) Unbuilt → Answer → Type 0
 MayAnswer shelf due (builds.Unbuilt unbuilt) = MayBeUnbuilt shelf due unbuilt
 MayAnswer shelf due (builds.Exports exports answers) = due ≡ Ok exports
+
+-- a source fault comes only where the count of a fetcher that is not gone rose
+abbrev pub HasSourceCause : FetchersSeen → Answer → Type 0
+HasSourceCause fetchers answer = (digest : List ℕ) → answer ≡ builds.Unbuilt (Source (SourceFault digest)) → SomeRose fetchers.before fetchers.now
 
 -- ---- trees
 
@@ -115,27 +129,31 @@ answer_status (builds.Exports exports answers) = if list_all is_exported answers
 
 -- ---- runs
 
--- a build: its answer by what was found under the manifest's name, and its operations
-pub record Answers (shelf : ShelfSeen) (exporter : ExporterSeen) (request : Request) (answer : Answer) : Type 0 where
+-- a build: its answer by what was found under the manifest's name and what was gathered, and its operations
+pub record Answers (shelf : ShelfSeen) (fetchers : FetchersSeen) (exporter : ExporterSeen) (request : Request) (answer : Answer) : Type 0 where
   pub found : Option (List ℕ)
   -- where the shelf tells, it was what the shelf holds there
   pub read : IfSome shelf.files (λ files. found ≡ file_of files request.manifest)
-  pub answers : MayAnswer shelf (exports_due found request.exports) answer
+  pub gathered : Result (List (List ℕ)) SourceAnswer
+  pub gathers : Gathers (asked found request.exports).items (asked found request.exports).digests fetchers.before fetchers.now gathered
+  pub answers : MayAnswer shelf (exports_due found request.exports gathered) answer
+  pub cause : HasSourceCause fetchers answer
   pub trees : HasExports exporter answer
 
 -- the run of a request: a build, its lines, and its status
-pub record Builds (shelf : ShelfSeen) (exporter : ExporterSeen) (sink : SinkSeen) (request : Request) (status : ℕ) : Type 0 where
+pub record Builds (shelf : ShelfSeen) (fetchers : FetchersSeen) (exporter : ExporterSeen) (sink : SinkSeen) (request : Request) (status : ℕ) : Type 0 where
   pub answer : Answer
-  pub answered : Answers shelf exporter request answer
+  pub answered : Answers shelf fetchers exporter request answer
   pub output : Ends sink (answer_lines 1 answer) (answer_status answer) status
 
--- a run that ends with one line: nothing is exported
-pub record EndsEarly (exporter : ExporterSeen) (sink : SinkSeen) (line : List ℕ) (usual status : ℕ) : Type 0 where
+-- a run that ends with one line: nothing is gathered or exported
+pub record EndsEarly (fetchers : FetchersSeen) (exporter : ExporterSeen) (sink : SinkSeen) (line : List ℕ) (usual status : ℕ) : Type 0 where
+  pub untouched : fetchers.now ≡ fetchers.before
   pub trees : exporter.now ≡ exporter.before
   pub output : IsWritten sink line usual status
 
 -- words that are no request are refused, and others are built; for want of memory, before anything is built, neither may
 -- be known
-abbrev pub IsRun : Option Request → ShelfSeen → ExporterSeen → SinkSeen → ℕ → Type 0
-IsRun None shelf exporter sink status = EndsEarly exporter sink (codes "words refused\n") 2 status ⊎ EndsEarly exporter sink (codes "want of memory\n") 7 status
-IsRun (Some request) shelf exporter sink status = Builds shelf exporter sink request status ⊎ EndsEarly exporter sink (codes "want of memory\n") 7 status
+abbrev pub IsRun : Option Request → ShelfSeen → FetchersSeen → ExporterSeen → SinkSeen → ℕ → Type 0
+IsRun None shelf fetchers exporter sink status = EndsEarly fetchers exporter sink (codes "words refused\n") 2 status ⊎ EndsEarly fetchers exporter sink (codes "want of memory\n") 7 status
+IsRun (Some request) shelf fetchers exporter sink status = Builds shelf fetchers exporter sink request status ⊎ EndsEarly fetchers exporter sink (codes "want of memory\n") 7 status

@@ -1,10 +1,22 @@
-ghost use Rattle.std.specs.Prelude.{◌≡◌, ◌≢◌, ◌++◌, Ok, Err, OnOk, IfErr, slice_get};
+ghost use Rattle.std.specs.Prelude.{◌≡◌, ◌≢◌, ◌++◌, ℕ, List, Some, None, Result, Ok, Err, OnOk, IfOk, IfErr, map, slice_get};
+ghost use Rattle.std.specs.Option.{option_to_list};
+ghost use Rattle.std.specs.Map.{keys_of};
+ghost use Rattle.osb_base.specs.Fetchers.{FetcherState};
+ghost use Rattle.osb_sources.specs.Rounds.{IsThinned, SomeRose};
+ghost use Rattle.osb_sources.specs.declared.answers.SourceAnswer.{SourceAnswer};
 ghost use Rattle.osb_manifest.specs.Needed.{needed};
-ghost use Rattle.osb_top.specs.Answers.{ok_map, no_inputs, pipeline_tree, built, tree_of, trees_of, exports_of, needed_due, exports_due};
+ghost use Rattle.osb_manifest.specs.Solo.{tree_of};
+ghost use Rattle.osb_manifest.specs.declared.manifests.Manifest.{Manifest};
+ghost use Rattle.osb_top.specs.Answers.{asked_of, failure_of, first_failure, with_name, named_trees, exports_of, gathered_due, needed_due, IsDue};
+ghost use Rattle.osb_top.specs.Steps.{IsAnswered};
 
-use osb_base::{Bytes, List, NoMemory, Text, find_named};
-use osb_manifest::{Manifest, NoSuchExport, Pipelines, Refusal, Stage, needed, read_manifest};
-use osb_tree::{Inputs, Shared, StageFault, Tree};
+use crate::blobs::Blobs;
+use crate::solo::solo;
+use osb_base::{Bytes, Fetcher, List, NoMemory, Text, find_named};
+use osb_manifest::{Manifest, NoSuchExport, Pipelines, Refusal, needed, read_manifest, wanted};
+use osb_recipe::Outcome;
+use osb_sources::{SourceAnswer, gather};
+use osb_tree::{Shared, StageFault, Tree};
 use std::alloc::{AllocFailed, Global};
 
 /// Why a build has no trees.
@@ -17,6 +29,8 @@ pub enum Unbuilt {
     Refused(Refusal),
     /// The manifest has no pipeline of the name.
     NoSuchExport(Text),
+    /// An item that the exports need was not had.
+    Source(SourceAnswer),
     /// A stage of the pipeline, by its place from 0, has a fault.
     Failed {
         pipeline: Text,
@@ -73,21 +87,34 @@ pub enum Answer {
     Exports(List<Export>, List<ExportAnswer>),
 }
 
-/// The exports that are due where these bytes stand under the manifest's name, by the names of their pipelines.
+/// The exports that are due where these bytes stand under the manifest's name, by the names of their pipelines. The
+/// items that they need are had from the manifest and the fetchers, of which those that are gone may leave the list.
 pub fn exports_due(
     alloc: Global,
     found: Option<Bytes>,
     names: &[Text],
+    fetchers: &mut Vec<Box<dyn Fetcher>>,
 ) -> Result<List<Export>, Unbuilt>
-    ensures due { result ≢ Err Unbuilt.NoMemory → result ≡ exports_due found names.now }
+    ensures due { IsDue found names.now (map (λ b. fetcher_state b) fetchers.old.items) (map (λ b. fetcher_state b) fetchers.new.items) result }
+    ensures left { IsThinned (map (λ b. fetcher_state b) fetchers.old.items) (map (λ b. fetcher_state b) fetchers.new.items) }
+    ensures cause { (digest : List ℕ) → result ≡ Err (Unbuilt.Source (SourceAnswer.Fault digest)) → SomeRose (map (λ b. fetcher_state b) fetchers.old.items) (map (λ b. fetcher_state b) fetchers.new.items) }
 {
     let Some(bytes) = found else {
         return Err(Unbuilt::Absent);
     };
     match read_manifest(alloc, bytes.as_slice()) {
-        Ok(manifest) => manifest_exports(alloc, &manifest, names),
-        Err(Refusal::NoMemory) => Err(Unbuilt::NoMemory),
-        Err(refusal) => Err(Unbuilt::Refused(refusal)),
+        Ok(manifest) => manifest_exports(alloc, &manifest, names, fetchers),
+        Err(refusal) => Err(refused(refusal)),
+    }
+}
+
+fn refused(refusal: Refusal) -> Unbuilt
+    ensures memory { refusal ≡ Refusal.NoMemory → result ≡ Unbuilt.NoMemory }
+    ensures refused { refusal ≢ Refusal.NoMemory → result ≡ Unbuilt.Refused refusal }
+{
+    match refusal {
+        Refusal::NoMemory => Unbuilt::NoMemory,
+        refusal => Unbuilt::Refused(refusal),
     }
 }
 
@@ -95,70 +122,120 @@ fn manifest_exports(
     alloc: Global,
     manifest: &Manifest,
     names: &[Text],
+    fetchers: &mut Vec<Box<dyn Fetcher>>,
 ) -> Result<List<Export>, Unbuilt>
-    ensures { result ≢ Err Unbuilt.NoMemory → result ≡ needed_due names.now manifest.now (needed manifest.now names.now) }
+    ensures due { IsAnswered (asked_of manifest.now (needed manifest.now names.now)) (needed_due names.now manifest.now (needed manifest.now names.now)) (map (λ b. fetcher_state b) fetchers.old.items) (map (λ b. fetcher_state b) fetchers.new.items) result }
+    ensures left { IsThinned (map (λ b. fetcher_state b) fetchers.old.items) (map (λ b. fetcher_state b) fetchers.new.items) }
+    ensures cause { (digest : List ℕ) → result ≡ Err (Unbuilt.Source (SourceAnswer.Fault digest)) → SomeRose (map (λ b. fetcher_state b) fetchers.old.items) (map (λ b. fetcher_state b) fetchers.new.items) }
 {
     match needed(alloc, manifest, names) {
-        Ok(places) => {
-            let trees = trees_of(alloc, &manifest.pipelines, places.as_slice())?;
-            exports_of(alloc, &trees, names)
-        }
-        Err(NoSuchExport::Lacking(name)) => Err(Unbuilt::NoSuchExport(name)),
-        Err(NoSuchExport::NoMemory) => Err(Unbuilt::NoMemory),
+        Ok(places) => needed_exports(alloc, manifest, places.as_slice(), names, fetchers),
+        Err(lacks) => Err(lacking(lacks)),
     }
 }
 
-/// The trees of the pipelines at these places, by name.
-fn trees_of(
+fn lacking(lacks: NoSuchExport) -> Unbuilt
+    ensures memory { lacks ≡ NoSuchExport.NoMemory → result ≡ Unbuilt.NoMemory }
+    ensures due { (names : List (List ℕ)) (manifest : Manifest) (gathered : Result (List (List ℕ)) SourceAnswer) → needed_due names manifest (Err lacks) gathered ≡ Err result }
+{
+    match lacks {
+        NoSuchExport::Lacking(name) => Unbuilt::NoSuchExport(name),
+        NoSuchExport::NoMemory => Unbuilt::NoMemory,
+    }
+}
+
+/// Gathers what the pipelines at these places use, and builds them.
+fn needed_exports(
     alloc: Global,
-    pipelines: &Pipelines,
+    manifest: &Manifest,
     places: &[usize],
+    names: &[Text],
+    fetchers: &mut Vec<Box<dyn Fetcher>>,
+) -> Result<List<Export>, Unbuilt>
+    ensures due { IsAnswered (asked_of manifest.now (Ok places.now)) (gathered_due names.now manifest.now places.now) (map (λ b. fetcher_state b) fetchers.old.items) (map (λ b. fetcher_state b) fetchers.new.items) result }
+    ensures left { IsThinned (map (λ b. fetcher_state b) fetchers.old.items) (map (λ b. fetcher_state b) fetchers.new.items) }
+    ensures cause { (digest : List ℕ) → result ≡ Err (Unbuilt.Source (SourceAnswer.Fault digest)) → SomeRose (map (λ b. fetcher_state b) fetchers.old.items) (map (λ b. fetcher_state b) fetchers.new.items) }
+{
+    let Ok(digests) = wanted(alloc, manifest, places) else {
+        return Err(Unbuilt::NoMemory);
+    };
+    match gather(alloc, &manifest.items, digests.as_slice(), fetchers) {
+        Ok(blobs) => exports_of_gathered(alloc, manifest, places, names, blobs.as_slice()),
+        Err(answer) => Err(source_unbuilt(answer)),
+    }
+}
+
+fn source_unbuilt(answer: SourceAnswer) -> Unbuilt
+    ensures due { (names : List (List ℕ)) (manifest : Manifest) (places : List ℕ) → gathered_due names manifest places (Err answer) ≡ Err result }
+{
+    match answer {
+        SourceAnswer::NoMemory => Unbuilt::NoMemory,
+        answer => Unbuilt::Source(answer),
+    }
+}
+
+/// The exports of these names, where the pipelines at these places are built with the items that were gathered for
+/// them.
+pub fn exports_of_gathered(
+    alloc: Global,
+    manifest: &Manifest,
+    places: &[usize],
+    names: &[Text],
+    gathered: &[Bytes],
+) -> Result<List<Export>, Unbuilt>
+    ensures due { result ≢ Err Unbuilt.NoMemory → result ≡ gathered_due names.now manifest.now places.now (Ok gathered.now) }
+{
+    let digests = wanted(alloc, manifest, places)?;
+    let blobs = Blobs::new(alloc, digests.as_slice(), gathered)?;
+    let built = solo(alloc, manifest, places, &blobs)?;
+    match named_trees(alloc, manifest, built) {
+        Ok(trees) => exports_of(alloc, &trees, names),
+        Err(unbuilt) => Err(unbuilt),
+    }
+}
+
+/// The trees that there are, by name, unless a pipeline has a fault.
+fn named_trees(
+    alloc: Global,
+    manifest: &Manifest,
+    built: Vec<(usize, Outcome)>,
 ) -> Result<Vec<(Text, Shared<Tree>)>, Unbuilt>
-    ensures { result ≢ Err Unbuilt.NoMemory → ok_map (λ trees. trees.items) result ≡ trees_of pipelines.now places.now }
+    ensures ok { IfOk result (λ trees. (first_failure manifest.now built.items ≡ None) × (trees.items ≡ named_trees manifest.now built.items)) }
+    ensures failed { IfErr result (λ unbuilt. unbuilt ≢ Unbuilt.NoMemory → first_failure manifest.now built.items ≡ Some unbuilt) }
 {
     let mut trees = Vec::new(alloc);
-    for place in places {
-        add_tree(alloc, pipelines, *place, &mut trees)?;
+    for (place, outcome) in built {
+        match add_tree(alloc, &manifest.pipelines, place, outcome, &mut trees) {
+            Ok(()) => {}
+            Err(unbuilt) => return Err(unbuilt),
+        }
     }
     Ok(trees)
 }
 
-/// Adds the tree of the pipeline at a place, if there is one.
+/// Adds the tree of the pipeline at a place, if it has one.
 fn add_tree(
     alloc: Global,
     pipelines: &Pipelines,
     place: usize,
+    outcome: Outcome,
     trees: &mut Vec<(Text, Shared<Tree>)>,
 ) -> Result<(), Unbuilt>
-    ensures ok { OnOk result (ok_map (λ more. trees.old.items ++ more) (tree_of (slice_get pipelines.now place)) ≡ Ok trees.new.items) }
-    ensures err { IfErr result (λ unbuilt. unbuilt ≢ Unbuilt.NoMemory → tree_of (slice_get pipelines.now place) ≡ Err unbuilt) }
+    ensures ok { OnOk result ((failure_of (slice_get (keys_of pipelines.now) place) outcome ≡ None) × (trees.new.items ≡ trees.old.items ++ option_to_list (with_name (slice_get (keys_of pipelines.now) place) (tree_of outcome)))) }
+    ensures failed { IfErr result (λ unbuilt. unbuilt ≢ Unbuilt.NoMemory → failure_of (slice_get (keys_of pipelines.now) place) outcome ≡ Some unbuilt) }
 {
     if place >= pipelines.len() {
         return Ok(());
     }
     let name = pipelines.name(place);
-    let stages = pipelines.pipeline(place).stages.as_slice();
-    let tree = match pipeline_tree(alloc, name, stages) {
-        Ok(tree) => tree,
-        Err(unbuilt) => return Err(unbuilt),
-    };
-    trees.push((Text::new(alloc, name)?, Shared::new(alloc, tree)?))?;
-    Ok(())
-}
-
-/// The tree of a pipeline of this name with these stages.
-fn pipeline_tree(alloc: Global, name: &str, stages: &[Stage]) -> Result<Tree, Unbuilt>
-    ensures { result ≢ Err Unbuilt.NoMemory → result ≡ built name.now (pipeline_tree stages.now) }
-{
-    let inputs = no_inputs(alloc);
-    let mut tree = Tree::empty(alloc)?;
-    for (place, stage) in stages.iter().enumerate() {
-        tree = match stage.kind.apply(alloc, tree, &inputs) {
-            Ok(tree) => tree,
-            Err(fault) => return Err(failed(alloc, name, place as u64, fault)),
-        };
+    match outcome {
+        Outcome::Tree(tree) => {
+            trees.push((Text::new(alloc, name)?, tree))?;
+            Ok(())
+        }
+        Outcome::Fault(stage, fault) => Err(failed(alloc, name, stage, fault)),
+        _ => Ok(()),
     }
-    Ok(tree)
 }
 
 /// The exports of these names, each with the tree of its name.
@@ -180,15 +257,6 @@ fn exports_of(
         })?;
     }
     Ok(List::new(exports))
-}
-
-/// What a stage without inputs reads beside its tree.
-fn no_inputs(alloc: Global) -> Inputs
-    ensures { result ≡ no_inputs }
-{
-    Inputs {
-        trees: List::new(Vec::new(alloc)),
-    }
 }
 
 /// The answer of a pipeline whose stage has this fault.

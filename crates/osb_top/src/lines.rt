@@ -1,11 +1,13 @@
-ghost use Rattle.std.specs.Prelude.{◌≡◌, ◌++◌, IfOk, OnOk, string_bytes};
+ghost use Rattle.std.specs.Prelude.{◌≡◌, ◌++◌, codes, IfOk, OnOk, string_bytes};
+ghost use Rattle.osb_base.specs.Digests.{digest_text};
 ghost use Rattle.osb_tree.specs.Paths.{path_text};
-ghost use Rattle.osb_top.specs.Lines.{numbered, option_words, refusal_words, fault_words, unbuilt_words, line_of, export_words, export_lines, answer_lines};
+ghost use Rattle.osb_top.specs.Lines.{numbered, option_words, refusal_words, fault_words, source_words, unbuilt_words, line_of, export_words, export_lines, answer_lines};
 
 use crate::answers::{Answer, Export, ExportAnswer, Unbuilt};
-use osb_base::NoMemory;
+use osb_base::{Digest, NoMemory};
 use osb_manifest::Refusal;
 use osb_pyjson::py_string;
+use osb_sources::SourceAnswer;
 use osb_tree::{OptionFault, Path, StageFault};
 use std::alloc::Global;
 
@@ -96,6 +98,7 @@ fn unbuilt_words(alloc: Global, unbuilt: &Unbuilt) -> Result<String, NoMemory>
             let name = name.as_str();
             format!(in alloc; "no such export {name}")
         }
+        Unbuilt::Source(answer) => source_words(alloc, answer),
         Unbuilt::Failed {
             pipeline,
             stage,
@@ -107,6 +110,28 @@ fn unbuilt_words(alloc: Global, unbuilt: &Unbuilt) -> Result<String, NoMemory>
         }
         Unbuilt::NoMemory => String::from_str(alloc, "want of memory"),
     }
+}
+
+/// What is wrong with an item, and its digest.
+fn source_words(alloc: Global, answer: &SourceAnswer) -> Result<String, NoMemory>
+    ensures { IfOk result (λ words. string_bytes words ≡ source_words answer.now) }
+{
+    match answer {
+        SourceAnswer::Missing(digest) => with_digest(alloc, "source missing", digest),
+        SourceAnswer::Wrong(digest) => with_digest(alloc, "source wrong", digest),
+        SourceAnswer::Fault(digest) => with_digest(alloc, "source fault", digest),
+        SourceAnswer::BadBase64(digest) => with_digest(alloc, "bad base64", digest),
+        SourceAnswer::ItemTooLarge(digest) => with_digest(alloc, "item too large", digest),
+        SourceAnswer::NoMemory => String::from_str(alloc, "want of memory"),
+    }
+}
+
+fn with_digest(alloc: Global, words: &str, digest: &Digest) -> Result<String, NoMemory>
+    ensures { IfOk result (λ text. string_bytes text ≡ words.now ++ (codes " " ++ digest_text digest.now)) }
+{
+    let digest = digest.text(alloc)?;
+    let digest = digest.as_str();
+    format!(in alloc; "{words} {digest}")
 }
 
 /// The number of a stage's fault, and what it is about.
@@ -167,7 +192,12 @@ fn refusal_words(alloc: Global, refusal: &Refusal) -> Result<String, NoMemory>
         }
         Refusal::BadNumber(place) => numbered_name(alloc, 7, place.as_str()),
         Refusal::DuplicatePipeline(place) => numbered_name(alloc, 8, place.as_str()),
+        Refusal::UnknownReference(place) => numbered_name(alloc, 9, place.as_str()),
         Refusal::UnknownStage(place) => numbered_name(alloc, 10, place.as_str()),
+        Refusal::UnknownInput(place) => numbered_name(alloc, 11, place.as_str()),
+        Refusal::UnknownSource(place) => numbered_name(alloc, 12, place.as_str()),
+        Refusal::BadChecksum(place) => numbered_name(alloc, 13, place.as_str()),
+        Refusal::Encoding(place) => numbered_name(alloc, 14, place.as_str()),
         Refusal::Options(place, fault) => {
             let place = numbered_name(alloc, 15, place.as_str())?;
             let fault = option_words(alloc, fault)?;

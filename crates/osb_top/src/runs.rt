@@ -1,6 +1,8 @@
 ghost use Rattle.std.specs.Prelude.{◌≡◌, codes, map, string_bytes, None};
 ghost use Rattle.std.specs.List.{list_all};
 ghost use Rattle.osb_base.specs.Faults.{Rose};
+ghost use Rattle.osb_base.specs.Fetchers.{FetcherState};
+ghost use Rattle.osb_sources.specs.Rounds.{IsThinned};
 ghost use Rattle.osb_top.specs.Lines.{answer_lines};
 ghost use Rattle.osb_top.specs.Runs.{request_of, is_exported, answer_status, Answers, IsWritten, Ends, IsRun};
 ghost use Rattle.osb_top.specs.Steps.{IsBuild, IsExporting};
@@ -10,7 +12,7 @@ use crate::exports::export_all;
 use crate::lines::answer_lines;
 use crate::words::{Request, request_of};
 use crate::writes::write_all;
-use osb_base::{Exporter, List, ReadStop, Shelf, Sink};
+use osb_base::{Exporter, Fetcher, List, ReadStop, Shelf, Sink};
 use std::alloc::Global;
 
 /// How a run ended: 0 where every tree is exported, 1 where the build or an export has another answer, 2 where the words
@@ -23,14 +25,17 @@ pub fn run_serial<H: Shelf, E: Exporter, O: Sink>(
     alloc: Global,
     words: &[String],
     shelf: &mut H,
+    fetchers: &mut Vec<Box<dyn Fetcher>>,
     exporter: &mut E,
     out: &mut O,
 ) -> Status
     ensures run { IsRun (request_of (map string_bytes words.now))
         (record { files = H.files shelf.old; faults = record { before = H.shelf_faults shelf.old; now = H.shelf_faults shelf.new } })
+        (record { before = map (λ b. fetcher_state b) fetchers.old.items; now = map (λ b. fetcher_state b) fetchers.new.items })
         (record { before = E.done exporter.old; now = E.done exporter.new; faults = record { before = E.export_faults exporter.old; now = E.export_faults exporter.new } })
         (record { before = O.taken out.old; now = O.taken out.new; faults = record { before = O.sink_faults out.old; now = O.sink_faults out.new } })
         result.0 }
+    ensures left { IsThinned (map (λ b. fetcher_state b) fetchers.old.items) (map (λ b. fetcher_state b) fetchers.new.items) }
 
     // What two statuses tell by themselves.
     ensures words_refused { result.0 ≡ 2 → request_of (map string_bytes words.now) ≡ None }
@@ -38,7 +43,7 @@ pub fn run_serial<H: Shelf, E: Exporter, O: Sink>(
 {
     match request_of(alloc, words) {
         Ok(Some(request)) => {
-            let answer = answer(alloc, &request, shelf, exporter);
+            let answer = answer(alloc, &request, shelf, fetchers, exporter);
             write_answer(alloc, &answer, out)
         }
         Ok(None) => write_text("words refused\n", 2, out),
@@ -50,27 +55,37 @@ fn answer<H: Shelf, E: Exporter>(
     alloc: Global,
     request: &Request,
     shelf: &mut H,
+    fetchers: &mut Vec<Box<dyn Fetcher>>,
     exporter: &mut E,
 ) -> Answer
-    ensures { Answers
+    ensures answers { Answers
         (record { files = H.files shelf.old; faults = record { before = H.shelf_faults shelf.old; now = H.shelf_faults shelf.new } })
+        (record { before = map (λ b. fetcher_state b) fetchers.old.items; now = map (λ b. fetcher_state b) fetchers.new.items })
         (record { before = E.done exporter.old; now = E.done exporter.new; faults = record { before = E.export_faults exporter.old; now = E.export_faults exporter.new } })
         request.now result }
+    ensures left { IsThinned (map (λ b. fetcher_state b) fetchers.old.items) (map (λ b. fetcher_state b) fetchers.new.items) }
 {
-    match build(alloc, request, shelf) {
+    match build(alloc, request, shelf, fetchers) {
         Ok(exports) => export_answer(alloc, exports, exporter),
         Err(unbuilt) => Answer::Unbuilt(unbuilt),
     }
 }
 
 /// Reads the manifest and makes the trees to export.
-fn build<H: Shelf>(alloc: Global, request: &Request, shelf: &mut H) -> Result<List<Export>, Unbuilt>
-    ensures { IsBuild
+fn build<H: Shelf>(
+    alloc: Global,
+    request: &Request,
+    shelf: &mut H,
+    fetchers: &mut Vec<Box<dyn Fetcher>>,
+) -> Result<List<Export>, Unbuilt>
+    ensures build { IsBuild
         (record { files = H.files shelf.old; faults = record { before = H.shelf_faults shelf.old; now = H.shelf_faults shelf.new } })
+        (record { before = map (λ b. fetcher_state b) fetchers.old.items; now = map (λ b. fetcher_state b) fetchers.new.items })
         request.now result }
+    ensures left { IsThinned (map (λ b. fetcher_state b) fetchers.old.items) (map (λ b. fetcher_state b) fetchers.new.items) }
 {
     match shelf.read(alloc, request.manifest.as_str()) {
-        Ok(found) => exports_due(alloc, found, request.exports.as_slice()),
+        Ok(found) => exports_due(alloc, found, request.exports.as_slice(), fetchers),
         Err(ReadStop::Failed) => Err(Unbuilt::ReadFault),
         Err(ReadStop::NoMemory) => Err(Unbuilt::NoMemory),
     }
