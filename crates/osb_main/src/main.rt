@@ -12,6 +12,7 @@ mod tests;
 mod writings;
 
 use folder::FolderExporter;
+use osb_base::Fetcher;
 use osb_top::{inspect, run_serial};
 use output::Output;
 use shelf_files::FileShelf;
@@ -46,7 +47,16 @@ fn main(rt: HostRuntime) -> ExitCode {
         Some(word) if word.as_str() == "inspect" => inspect(alloc, &words, &mut shelf, &mut out),
         _ => {
             let mut exporter = FolderExporter::new(rt, EXPORT_ROOT);
-            run_serial(alloc, &words, &mut shelf, &mut exporter, &mut out)
+            // No word names a mirror yet.
+            let mut fetchers: Vec<Box<dyn Fetcher>> = Vec::new(alloc);
+            run_serial(
+                alloc,
+                &words,
+                &mut shelf,
+                &mut fetchers,
+                &mut exporter,
+                &mut out,
+            )
         }
     };
     ExitCode::from(status.0)
