@@ -107,7 +107,18 @@ impl Reader {
 fn takes_block(word: &str) -> bool {
     matches!(
         word,
-        "file" | "part" | "text" | "value" | "puts" | "input" | "content" | "options" | "due"
+        "file"
+            | "mirror"
+            | "part"
+            | "text"
+            | "value"
+            | "puts"
+            | "input"
+            | "tasks"
+            | "script"
+            | "content"
+            | "options"
+            | "due"
     )
 }
 
@@ -127,7 +138,7 @@ fn entry_of(alloc: Global, line: usize, content: &str) -> Result<Entry, NoMemory
 
 fn name_and_rest<'a>(word: &str, rest: &'a str) -> (&'a str, &'a str) {
     match word {
-        "file" | "fail" | "part" | "input" | "content" | "due" => first_word(rest),
+        "file" | "mirror" | "fail" | "part" | "input" | "content" | "due" => first_word(rest),
         _ => ("", rest),
     }
 }

@@ -9,6 +9,7 @@ pub enum Kind {
     PythonString,
     Puts,
     Stage,
+    Board,
 }
 
 impl Kind {
@@ -23,6 +24,7 @@ impl Kind {
             "python string" => Some(Kind::PythonString),
             "puts" => Some(Kind::Puts),
             "stage" => Some(Kind::Stage),
+            "board" => Some(Kind::Board),
             _ => None,
         }
     }
@@ -35,13 +37,17 @@ impl Kind {
     fn is_given(self, word: &str) -> bool {
         match self {
             Kind::RunSerial | Kind::Inspect => {
-                matches!(word, "words" | "word" | "file" | "fail" | "room" | "most")
+                matches!(
+                    word,
+                    "words" | "word" | "file" | "mirror" | "fail" | "room" | "most"
+                )
             }
             Kind::Path | Kind::PythonString => word == "text",
             Kind::Python => word == "value",
             Kind::Marks => matches!(word, "value" | "words" | "word"),
             Kind::Puts => matches!(word, "puts" | "random"),
             Kind::Stage => { matches!(word, "puts" | "content" | "input" | "type" | "options") }
+            Kind::Board => matches!(word, "tasks" | "script"),
         }
     }
 }

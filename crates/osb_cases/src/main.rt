@@ -1,11 +1,13 @@
 //! Runs the cases of the files that its words name, and prints where what came differs from what is due.
 #![tactic(auto)]
 
+mod boards;
 mod cases;
 mod differences;
 mod entries;
 mod kinds;
 mod marks;
+mod mirrors;
 mod mistakes;
 mod nodes;
 mod outcomes;

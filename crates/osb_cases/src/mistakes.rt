@@ -50,12 +50,28 @@ pub enum Mistake {
     NoManifest,
     #[error("this is no object whose calls can fail")]
     UnknownObject,
+    #[error("a mirror has no name, or that of another object")]
+    NoMirrorName,
+    #[error("a mirror is given neither `gone` nor an item")]
+    NotAnItem,
+    #[error("this is no digest")]
+    NotADigest,
     #[error("a line of the text is no put")]
     NotAPut,
     #[error("the text is no path")]
     NotAPath,
     #[error("the node's mode, owners or target are not in their ranges")]
     NodeOutOfRange,
+    #[error("a line that takes a block alone has a value")]
+    ValueForBlock,
+    #[error("a task waits for one that is not lower")]
+    NotLower,
+    #[error("a worker has no number of 0 to 63")]
+    NoWorker,
+    #[error("a line of the script is no action")]
+    NotAnAction,
+    #[error("the board does not allow this action now")]
+    NotAllowed,
 }
 
 /// Why a case file was not run to its end.

@@ -4,7 +4,7 @@ use crate::kinds::Kind;
 use crate::marks::marks_answer;
 use crate::mistakes::{CaseFault, Mistake};
 use crate::parts::text_of;
-use crate::{puts, runs, stages};
+use crate::{boards, puts, runs, stages};
 use osb_base::NoMemory;
 use osb_pyjson::{PyFault, py_string, py_text};
 use osb_tree::{Path, PathFault, Text};
@@ -18,6 +18,7 @@ pub enum Outcome {
     Answer(Text),
     Puts(puts::AfterPuts),
     Stage(stages::StageRun),
+    Board(boards::Replies),
 }
 
 /// Makes the call of a case.
@@ -30,6 +31,7 @@ pub fn make_call(alloc: Global, case: &Case) -> Result<Outcome, CaseFault> {
         Kind::PythonString => Ok(Outcome::Answer(python_string_answer(alloc, case)?)),
         Kind::Puts => Ok(Outcome::Puts(puts::make_puts(alloc, case)?)),
         Kind::Stage => Ok(Outcome::Stage(stages::run_stage(alloc, case)?)),
+        Kind::Board => Ok(Outcome::Board(boards::run_script(alloc, case)?)),
     }
 }
 
@@ -41,6 +43,7 @@ impl Outcome {
             Outcome::Answer(answer) => answer_section(alloc, answer, due)?,
             Outcome::Puts(puts) => puts.section(alloc, case, due)?.map(String::into_bytes),
             Outcome::Stage(stage) => stage.section(alloc, due)?,
+            Outcome::Board(replies) => replies.section(alloc, due)?,
         };
         match came {
             Some(bytes) => Ok(bytes),

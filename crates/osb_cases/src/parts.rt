@@ -70,6 +70,13 @@ fn inserted_bytes(
     Ok(bytes)
 }
 
+/// The bytes that one part gives.
+pub fn part_bytes(alloc: Global, part: &str, line: usize) -> Result<Vec<u8>, CaseFault> {
+    let mut bytes = Vec::new(alloc);
+    add_part(alloc, part, line, &mut bytes)?;
+    Ok(bytes)
+}
+
 /// Adds what one line of a block of parts gives.
 fn add_part(alloc: Global, part: &str, line: usize, bytes: &mut Vec<u8>) -> Result<(), CaseFault> {
     let (word, rest) = first_word(part);

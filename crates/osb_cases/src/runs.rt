@@ -4,10 +4,11 @@ ghost use Rattle.osb_base.specs.Shelves.{AreFiles};
 use crate::cases::Case;
 use crate::entries::Entry;
 use crate::kinds::Kind;
+use crate::mirrors::{is_mirror, mirrors};
 use crate::mistakes::{CaseFault, Mistake};
 use crate::nodes::op_line;
 use crate::parts::bytes_of;
-use osb_base::{Bytes, MemExporter, MemShelf, MemSink, NoMemory, Op, Text, find_named};
+use osb_base::{Bytes, Fetcher, MemExporter, MemShelf, MemSink, NoMemory, Op, Text, find_named};
 use osb_top::{inspect, run_serial};
 use std::alloc::Global;
 
@@ -20,6 +21,8 @@ pub struct Run {
     status: u8,
     out: MemSink,
     exporter: MemExporter,
+    /// How many are left of the mirrors.
+    mirrors: usize,
 }
 
 /// Runs a case through `run_serial` or `inspect`, over objects in memory.
@@ -27,18 +30,30 @@ pub fn run_case(alloc: Global, case: &Case) -> Result<Run, CaseFault> {
     check_objects(case)?;
     let words = words(alloc, case)?;
     let mut shelf = MemShelf::new(files(alloc, case)?, failing(alloc, case, "shelf")?);
+    let mut fetchers: Vec<Box<dyn Fetcher>> = Vec::new(alloc);
+    for mirror in mirrors(alloc, case)? {
+        fetchers.push(Box::new(alloc, mirror)?)?;
+    }
     let mut exporter = MemExporter::new(alloc, failing(alloc, case, "exporter")?);
     let room = case.number("room")?.unwrap_or(ROOM);
     let most = case.number("most")?;
     let mut out = MemSink::new(alloc, room, most, failing(alloc, case, "sink")?)?;
     let status = match case.kind {
         Kind::Inspect => inspect(alloc, &words, &mut shelf, &mut out),
-        _ => run_serial(alloc, &words, &mut shelf, &mut exporter, &mut out),
+        _ => run_serial(
+            alloc,
+            &words,
+            &mut shelf,
+            &mut fetchers,
+            &mut exporter,
+            &mut out,
+        ),
     };
     Ok(Run {
         status: status.0,
         out,
         exporter,
+        mirrors: fetchers.len(),
     })
 }
 
@@ -50,6 +65,7 @@ impl Run {
             "status" => format!(in alloc; "{}", self.status)?,
             "out" => return Ok(Some(Vec::from_slice(alloc, self.out.taken())?)),
             "operations" => format!(in alloc; "{}", done.len())?,
+            "mirrors" => format!(in alloc; "{}", self.mirrors)?,
             "done" => done_lines(alloc, done)?,
             "list" => return Ok(Some(list(alloc, done, due.argument.as_str())?)),
             _ => return Ok(None),
@@ -142,7 +158,7 @@ fn add_file(
 }
 
 /// The numbers of the calls of an object that fail.
-fn failing(alloc: Global, case: &Case, object: &str) -> Result<Vec<u64>, CaseFault> {
+pub fn failing(alloc: Global, case: &Case, object: &str) -> Result<Vec<u64>, CaseFault> {
     let mut numbers = Vec::new(alloc);
     let Some(entry) = case.find("fail", object) else {
         return Ok(numbers);
@@ -159,10 +175,13 @@ fn failing(alloc: Global, case: &Case, object: &str) -> Result<Vec<u64>, CaseFau
 /// Refuses a line on calls that fail of an object that a run does not have.
 fn check_objects(case: &Case) -> Result<(), CaseFault> {
     for entry in case.template.iter().chain(case.own.iter()) {
-        let is_known = matches!(entry.name.as_str(), "shelf" | "exporter" | "sink");
-        if entry.word.as_str() == "fail" && !is_known {
+        if entry.word.as_str() == "fail" && !is_object(case, entry.name.as_str()) {
             return Err(Mistake::UnknownObject.at(entry.line));
         }
     }
     Ok(())
+}
+
+fn is_object(case: &Case, name: &str) -> bool {
+    matches!(name, "shelf" | "exporter" | "sink") || is_mirror(case, name)
 }
