@@ -14,11 +14,11 @@ loop-number-init c = record {
 pub returns-in-Err : goal.returns-in-Err
 returns-in-Err c = record {
   tree = λ n.
-    let i = c.loop-number.number-index in
-    let within : i < length c.args.numbers.now = c.loop-number-test.true in
-    let there : get_or c.args.numbers.now i 0 < length c.args.blobs.now = All-get_or (λ k. k < length c.args.blobs.now) c.args.numbers.now i 0 within c.requires.numbers in
-    turn_stop c.args.blobs.now c.args.numbers.now i c.index-blobs-number.result c.as_slice-bytes.result.now c.loop-number.tree c.in-Err.fault _ within there
-    c.index-blobs-number.is c.as_slice-bytes.ensures.content (c.in-Err.ensures.fault (λ e. n (cc))) c.loop-number.invariant.made;
+      let i = c.loop-number.number-index in
+      let within : i < length c.args.numbers.now = c.loop-number-test.true in
+      let there : get_or c.args.numbers.now i 0 < length c.args.blobs.now = All-get_or (λ k. k < length c.args.blobs.now) c.args.numbers.now i 0 within c.requires.numbers in
+      turn_stop c.args.blobs.now c.args.numbers.now i c.index-blobs-number.result c.as_slice-bytes.result.now c.loop-number.tree c.in-Err.fault _ within there
+      c.index-blobs-number.is c.as_slice-bytes.ensures.content (c.in-Err.ensures.fault (λ e. n (cc))) c.loop-number.invariant.made;
 }
 
 pub loop-number-preserved : goal.loop-number-preserved
