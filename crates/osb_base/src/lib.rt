@@ -12,6 +12,8 @@ mod lookups;
 mod shares;
 mod shelves;
 mod sinks;
+mod steps;
+mod weights;
 
 pub use digests::{Digest, DigestFault};
 pub use exporters::{Exporter, MemExporter, Op, SureExporter};
@@ -22,3 +24,5 @@ pub use osb_tree::{Bytes, Key, List, Name, NoMemory, Path, TaskNo, Text, WorkerN
 pub use shares::Share;
 pub use shelves::{MOST_FILE_BYTES, MemShelf, Shelf, SureShelf};
 pub use sinks::{MemSink, Sink, SureSink};
+pub use steps::Steps;
+pub use weights::Weighed;
