@@ -1,1 +1,4 @@
 pub mod FilesTrees
+pub mod Exact
+pub mod Interning
+pub mod Growing

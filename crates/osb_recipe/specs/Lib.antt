@@ -1,2 +1,9 @@
 pub mod Kinds
 pub mod FilesTrees
+pub mod Pairs
+pub mod Tools
+pub mod Works
+pub mod Recipes
+pub mod Interning
+pub mod Tables
+pub mod Meanings
