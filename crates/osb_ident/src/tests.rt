@@ -4,6 +4,7 @@ use osb_files::noop;
 use osb_manifest::{Input, Manifest, Pipeline, Pipelines, Stage};
 use osb_recipe::StageKind;
 use osb_sources::Items;
+use osb_tree::Shared;
 use std::alloc::Global;
 use std::test::Fail;
 
@@ -27,7 +28,7 @@ fn stage(
     inputs: Vec<(Text, Input)>,
 ) -> Result<Stage, NoMemory> {
     Ok(Stage {
-        kind: StageKind::Noop(noop::Options {}),
+        kind: Shared::new(alloc, StageKind::Noop(noop::Options {}))?,
         type_text: Text::new(alloc, type_text)?,
         options_text: Text::new(alloc, options)?,
         inputs: List::new(inputs),

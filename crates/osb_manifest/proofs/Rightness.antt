@@ -6,13 +6,13 @@ use Rattle.serde_json.specs.Data.{Data, null, boolean, number, string, array, ob
 use Rattle.serde_json.specs.Find.{get, as_str}
 use Rattle.osb_shape.specs.Forms.{is_pipeline_name}
 use Rattle.osb_shape.specs.Firsts.{first}
-use Rattle.osb_shape.specs.Values.{is_object, there_is, list_of, list_in, list_at, text_at, members_in, members_at, all_items, all_members, is_single}
+use Rattle.osb_shape.specs.Values.{is_object, there_is, list_of, list_in, list_at, members_in, members_at, all_items, all_members, is_single}
 use Rattle.osb_shape.specs.References.{references_in, references_at, is_references, is_one_reference, is_tree_input, is_files_input}
 use Rattle.osb_shape.specs.Numbers.{bad_numbers, bad_members}
 use Rattle.osb_shape.specs.Places.{place_text, pipeline_place, stage_place, input_place}
 use Rattle.osb_shape.specs.Shapes.{Row, Shape, may_have, must_have, top_shape, pipeline_shape, stage_shape, input_shape, is_broken_at, is_broken, broken_names, offending}
-use Rattle.osb_manifest.specs.Walks.{options_of, stage_kind, Object, at_top, at_pipeline, at_stage, at_input, by_name, input_objects, stage_objects, pipeline_objects, source_objects, in_order, objects, is_unknown, faults_of, is_lost, are_digests, applies, everywhere, all_conditions, refusals_of}
-use Rattle.osb_manifest.specs.Right.{IsRightStage, IsRightPipeline, AllMembers, IsRightInput, HasRightInputs, HaveRightInputs}
+use Rattle.osb_manifest.specs.Walks.{options_of, stage_kind, Object, at_top, at_pipeline, at_stage, at_input, by_name, input_objects, stage_objects, pipeline_objects, source_objects, in_order, objects, is_unknown, faults_of, is_lost, is_build_lost, are_digests, applies, everywhere, all_conditions, refusals_of}
+use Rattle.osb_manifest.specs.Right.{IsRightStage, IsRightPipeline, AllMembers, IsRightInput, HasRightInputs, IsBuiltBefore, AreBuiltBefore}
 use Rattle.osb_shape.specs.declared.shapes.Form.TheVariants as forms
 use Rattle.osb_manifest.specs.declared.manifests.Refusal.TheVariants as refusals
 use Rattle.osb_manifest.specs.declared.conditions.Condition.{Condition}
@@ -129,7 +129,6 @@ module _ (whole : Data) where
       let rows = rows_hold pipeline_shape pipeline is (none-from_map (refusals.Member (place_text (pipeline_place i))) (offending pipeline_shape pipeline) (here conditions.WrongMember)) in
       record {
         named = name_in (codes "name") (get (codes "name") pipeline) rows.0;
-        alone = not-from_when (is_some (text_at (codes "build") pipeline)) _ (here conditions.NotYetRead);
         stages = right_stages i 0 (list_at (codes "stages") pipeline) (objects_in (codes "stages") (get (codes "stages") pipeline) rows.1.1.1.0) (clean_rest (at_pipeline i pipeline) (in_order (stage_objects i) 0 (list_at (codes "stages") pipeline)) h);
       }
 
@@ -154,7 +153,6 @@ module _ (whole : Data) where
   clean e conditions.BadChecksum = (none_each (everywhere whole) all_conditions e).1.1.1.1.1.1.1.1.1.1.0
   clean e conditions.OtherEncoding = (none_each (everywhere whole) all_conditions e).1.1.1.1.1.1.1.1.1.1.1.0
   clean e conditions.WrongOptions = (none_each (everywhere whole) all_conditions e).1.1.1.1.1.1.1.1.1.1.1.1.0
-  clean e conditions.NotYetRead = (none_each (everywhere whole) all_conditions e).1.1.1.1.1.1.1.1.1.1.1.1.1.0
 
   top_objects : refusals_of whole ≡ [] → AreObjects (list_at (codes "pipelines") whole)
   top_objects e =
@@ -206,20 +204,25 @@ module _ (whole : Data) where
   stages_inputs i j (stage ∷ stages) is h =
       (stage_inputs i j stage is.0 (clean_left (stage_objects i j stage) (in_order (stage_objects i) (j + 1) stages) h), stages_inputs i (j + 1) stages is.1 (clean_right (stage_objects i j stage) (in_order (stage_objects i) (j + 1) stages) h))
 
-  pipeline_inputs : (i : ℕ) (pipeline : Data) → is_object pipeline ≡ true → IsClean (pipeline_objects i pipeline) → AllByRecursion (HasRightInputs whole i) (list_at (codes "stages") pipeline)
-  pipeline_inputs i pipeline is h =
+  -- ---- pipelines before
+
+  built_before : (i : ℕ) (pipeline : Data) → is_object pipeline ≡ true → IsClean (pipeline_objects i pipeline) → IsBuiltBefore whole i pipeline
+  built_before i pipeline is h =
       let here = clean_first (at_pipeline i pipeline) (in_order (stage_objects i) 0 (list_at (codes "stages") pipeline)) h in
       let rows = rows_hold pipeline_shape pipeline is (none-from_map (refusals.Member (place_text (pipeline_place i))) (offending pipeline_shape pipeline) (here conditions.WrongMember)) in
-      stages_inputs i 0 (list_at (codes "stages") pipeline) (objects_in (codes "stages") (get (codes "stages") pipeline) rows.1.1.1.0) (clean_rest (at_pipeline i pipeline) (in_order (stage_objects i) 0 (list_at (codes "stages") pipeline)) h)
+      record {
+        build = not-from_when (is_build_lost whole i pipeline) _ (here conditions.UnknownReference);
+        inputs = stages_inputs i 0 (list_at (codes "stages") pipeline) (objects_in (codes "stages") (get (codes "stages") pipeline) rows.1.1.1.0) (clean_rest (at_pipeline i pipeline) (in_order (stage_objects i) 0 (list_at (codes "stages") pipeline)) h);
+      }
 
-  pipelines_inputs : (i : ℕ) (pipelines : List Data) → AreObjects pipelines → IsClean (in_order pipeline_objects i pipelines) → HaveRightInputs whole i pipelines
-  pipelines_inputs i [] is h = tt
-  pipelines_inputs i (pipeline ∷ pipelines) is h =
-      (pipeline_inputs i pipeline is.0 (clean_left (pipeline_objects i pipeline) (in_order pipeline_objects (i + 1) pipelines) h), pipelines_inputs (i + 1) pipelines is.1 (clean_right (pipeline_objects i pipeline) (in_order pipeline_objects (i + 1) pipelines) h))
+  all_built_before : (i : ℕ) (pipelines : List Data) → AreObjects pipelines → IsClean (in_order pipeline_objects i pipelines) → AreBuiltBefore whole i pipelines
+  all_built_before i [] is h = tt
+  all_built_before i (pipeline ∷ pipelines) is h =
+      (built_before i pipeline is.0 (clean_left (pipeline_objects i pipeline) (in_order pipeline_objects (i + 1) pipelines) h), all_built_before (i + 1) pipelines is.1 (clean_right (pipeline_objects i pipeline) (in_order pipeline_objects (i + 1) pipelines) h))
 
-  pub inputs_right : refusals_of whole ≡ [] → HaveRightInputs whole 0 (list_at (codes "pipelines") whole)
-  inputs_right e =
+  pub built_before_where_right : refusals_of whole ≡ [] → AreBuiltBefore whole 0 (list_at (codes "pipelines") whole)
+  built_before_where_right e =
       let h = clean e in
       let below = in_order pipeline_objects 0 (list_at (codes "pipelines") whole) in
       let sources = by_name source_objects (members_at (codes "sources") whole) in
-      pipelines_inputs 0 (list_at (codes "pipelines") whole) (top_objects e) (clean_left below sources (clean_rest (at_top whole) (below ++ sources) h))
+      all_built_before 0 (list_at (codes "pipelines") whole) (top_objects e) (clean_left below sources (clean_rest (at_top whole) (below ++ sources) h))

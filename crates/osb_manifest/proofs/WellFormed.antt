@@ -1,5 +1,5 @@
 -- What is read is well-formed.
-use Rattle.std.proofs.Common.{◌≡◌, ℕ, zero, suc, ◌+◌, ◌<◌, ◌&&◌, ◌||◌, not, Bool, true, false, true≢false, cond, List, [], ◌∷◌, codes, take, Option, Some, None, IsSome, IsTrue, Less, option_map, option_and_then, Result, Ok, Err, eqb, refl, sym, ap, ◌∙◌, subst, arith}
+use Rattle.std.proofs.Common.{◌≡◌, ℕ, zero, suc, ◌+◌, ◌<◌, ◌&&◌, ◌||◌, not, Bool, true, false, true≢false, cond, List, [], ◌∷◌, codes, take, Option, Some, None, is_some, IsSome, IsTrue, Less, option_map, option_and_then, Result, Ok, Err, eqb, refl, sym, ap, ◌∙◌, subst, arith}
 use Rattle.std.specs.Str.{bytes_eq, is_utf8}
 use Rattle.std.specs.Ordering.{nat_cmp, eq_by_cmp}
 use Rattle.std.specs.Cmp.Lexicographic.{lists_ties}
@@ -24,9 +24,9 @@ use Rattle.osb_shape.specs.Forms.{is_pipeline_name}
 use Rattle.osb_shape.specs.References.{references_at, is_tree_input, referred, referred_first}
 use Rattle.osb_shape.specs.Values.{there_is, is_text, list_at, text_at, members_at}
 use Rattle.osb_manifest.specs.Pairs.{both}
-use Rattle.osb_manifest.specs.Walks.{name_of, options_of, items_of, is_taken, refusals_of}
-use Rattle.osb_manifest.specs.Right.{IsRightPipeline, AllMembers, IsRightInput, HasRightInputs, HaveRightInputs}
-use Rattle.osb_manifest.specs.Manifests.{json_of, place_named, made_tree, made_file, made_files, made_input, named_input, made_inputs, made_held, made_inline, stage_with, made_stage, pipeline_with, made_pipeline, made_manifest, name_cmp, IsInput, IsStage, ArePipelines, IsWellFormed}
+use Rattle.osb_manifest.specs.Walks.{name_of, options_of, items_of, is_taken, is_build_lost, refusals_of}
+use Rattle.osb_manifest.specs.Right.{IsRightPipeline, AllMembers, IsRightInput, HasRightInputs, AreBuiltBefore}
+use Rattle.osb_manifest.specs.Manifests.{json_of, place_named, made_tree, made_file, made_files, made_input, named_input, made_inputs, made_held, made_inline, stage_with, made_stage, made_build, pipeline_with, made_pipeline, made_manifest, name_cmp, IsInput, IsStage, ArePipelines, IsWellFormed}
 use Rattle.osb_manifest.specs.declared.manifests.Manifest.{Manifest}
 use Rattle.osb_manifest.specs.declared.manifests.Pipeline.{Pipeline}
 use Rattle.osb_manifest.specs.declared.manifests.Stage.{Stage}
@@ -37,7 +37,7 @@ use Rattle.osb_manifest.proofs.Depths.{IsShallow, shallow-list_at, shallow-optio
 use Rattle.osb_manifest.proofs.Distinct.{IsDistinct-made}
 use Rattle.osb_manifest.proofs.Nothing.{none-from_first}
 use Rattle.osb_manifest.proofs.Ordered.{IsRising, IsOrdered, HasOrdered, ordered-read, ordered-get, ordered-list_at, whole-members_in, whole-members_at, rising-references_at}
-use Rattle.osb_manifest.proofs.Rightness.{right, inputs_right}
+use Rattle.osb_manifest.proofs.Rightness.{right, built_before_where_right}
 use Rattle.osb_manifest.proofs.Rising.{rising-collected}
 use Rattle.osb_base.proofs.DigestOrder.{digests_rise}
 
@@ -174,15 +174,24 @@ made_stages whole i (value ∷ values) h o r =
 -- ---- pipelines
 
 -- a pipeline without a name would be none, and those after it stood one place before their own
-cons_pipeline : (name : Option (List ℕ)) (stages : List Stage) (rest : List (List ℕ × Pipeline)) (i : ℕ) → IsSome name → AllByRecursion (IsStage i) stages → ArePipelines (i + 1) (values_of rest) → ArePipelines i (values_of (cons_option (option_map (λ n. (n, pipeline_with stages)) name) rest))
-cons_pipeline None stages rest i s h k = absurd (true≢false (sym s))
-cons_pipeline (Some name) stages rest i s h k = (record { build = tt; stages = h }, k)
+cons_pipeline : (name : Option (List ℕ)) (build : Option ℕ) (stages : List Stage) (rest : List (List ℕ × Pipeline)) (i : ℕ) → IsSome name → IfSome build (λ place. place < i) → AllByRecursion (IsStage i) stages → ArePipelines (i + 1) (values_of rest) → ArePipelines i (values_of (cons_option (option_map (λ n. (n, pipeline_with build stages)) name) rest))
+cons_pipeline None build stages rest i s b h k = absurd (true≢false (sym s))
+cons_pipeline (Some name) build stages rest i s b h k = (record { build = b; stages = h }, k)
 
-made_pipelines : (whole : Data) (i : ℕ) (values : List Data) → AllByRecursion IsRightPipeline values → AllByRecursion IsShallow values → AllByRecursion IsOrdered values → HaveRightInputs whole i values → ArePipelines i (values_of (filter_map (made_pipeline (list_at (codes "pipelines") whole)) values))
+-- the `build` of a pipeline at a place stands before it
+is_build : (whole : Data) (i : ℕ) (value : Data) → is_build_lost whole i value ≡ false → IfSome (made_build (list_at (codes "pipelines") whole) value) (λ place. place < i)
+is_build whole i value h = by_text (text_at (codes "build") value) h
+  where
+    by_text : (text : Option (List ℕ)) → (is_some text && not (there_is (is_taken (list_at (codes "pipelines") whole) i) (option_and_then referred text))) ≡ false
+        → IfSome (option_and_then (place_named (list_at (codes "pipelines") whole)) (option_and_then referred text)) (λ place. place < i)
+    by_text None k = tt
+    by_text (Some text) k = found_before (list_at (codes "pipelines") whole) i (referred text) (not_lost true (there_is (is_taken (list_at (codes "pipelines") whole) i) (referred text)) refl k)
+
+made_pipelines : (whole : Data) (i : ℕ) (values : List Data) → AllByRecursion IsRightPipeline values → AllByRecursion IsShallow values → AllByRecursion IsOrdered values → AreBuiltBefore whole i values → ArePipelines i (values_of (filter_map (made_pipeline (list_at (codes "pipelines") whole)) values))
 made_pipelines whole i [] n h o r = tt
 made_pipelines whole i (value ∷ values) n h o r =
-    cons_pipeline (name_of value) (filter_map (made_stage (list_at (codes "pipelines") whole)) (list_at (codes "stages") value)) (filter_map (made_pipeline (list_at (codes "pipelines") whole)) values) i (there (name_of value) n.0.named)
-    (made_stages whole i (list_at (codes "stages") value) (shallow-list_at (codes "stages") value h.0) (ordered-list_at (codes "stages") value o.0) r.0)
+    cons_pipeline (name_of value) (made_build (list_at (codes "pipelines") whole) value) (filter_map (made_stage (list_at (codes "pipelines") whole)) (list_at (codes "stages") value)) (filter_map (made_pipeline (list_at (codes "pipelines") whole)) values) i (there (name_of value) n.0.named) (is_build whole i value r.0.build)
+    (made_stages whole i (list_at (codes "stages") value) (shallow-list_at (codes "stages") value h.0) (ordered-list_at (codes "stages") value o.0) r.0.inputs)
     (made_pipelines whole (i + 1) values n.1 h.1 o.1 r.1)
   where
     there : (name : Option (List ℕ)) → IsTrue (there_is is_pipeline_name name) → IsSome name
@@ -217,7 +226,7 @@ IsWellFormed-made whole h o e =
     let none = none-from_first (refusals_of whole) e in
     record {
       named = IsDistinct-made whole e;
-      pipelines = made_pipelines whole 0 (list_at (codes "pipelines") whole) (right whole none) (shallow-list_at (codes "pipelines") whole h) (ordered-list_at (codes "pipelines") whole o) (inputs_right whole none);
+      pipelines = made_pipelines whole 0 (list_at (codes "pipelines") whole) (right whole none) (shallow-list_at (codes "pipelines") whole h) (ordered-list_at (codes "pipelines") whole o) (built_before_where_right whole none);
       items = distinct-sorted (keys_of (made_inline (items_of (codes "org.osbuild.inline") whole))) (rising_inline (items_of (codes "org.osbuild.inline") whole) (rising_items (codes "org.osbuild.inline") whole o));
     }
 

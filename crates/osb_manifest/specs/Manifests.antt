@@ -19,7 +19,7 @@ use Rattle.osb_shape.specs.Values.{text_at, is_text, list_at, members_at}
 use Rattle.osb_shape.specs.References.{references_at, is_tree_input, referred}
 use Rattle.osb_shape.specs.Places.{place_text}
 use Rattle.osb_manifest.specs.Pairs.{both}
-use Rattle.osb_manifest.specs.Walks.{name_of, options_of, items_of, refusals_of}
+use Rattle.osb_manifest.specs.Walks.{name_of, build_name, options_of, items_of, refusals_of}
 use Rattle.osb_manifest.specs.declared.manifests.Manifest.{Manifest}
 use Rattle.osb_manifest.specs.declared.manifests.Pipeline.{Pipeline}
 use Rattle.osb_manifest.specs.declared.manifests.Stage.{Stage}
@@ -83,12 +83,17 @@ abbrev pub made_stage : List Data → Data → Option Stage
 made_stage pipelines value =
     option_and_then (λ text. both (stage_with text (made_inputs pipelines (members_at (codes "inputs") value))) (result_ok (kind_of text (options_of value))) (py_data (options_of value))) (text_at (codes "type") value)
 
-abbrev pub pipeline_with : List Stage → Pipeline
-pipeline_with stages = record { build = None; stages = stages }
+-- the place of the pipeline that a pipeline's `build` names
+abbrev pub made_build : List Data → Data → Option ℕ
+made_build pipelines value = option_and_then (place_named pipelines) (build_name value)
+
+abbrev pub pipeline_with : Option ℕ → List Stage → Pipeline
+pipeline_with build stages = record { build = build; stages = stages }
 
 -- a pipeline of a list, by its name
 abbrev pub made_pipeline : List Data → Data → Option (List ℕ × Pipeline)
-made_pipeline pipelines value = option_map (λ name. (name, pipeline_with (filter_map (made_stage pipelines) (list_at (codes "stages") value)))) (name_of value)
+made_pipeline pipelines value =
+    option_map (λ name. (name, pipeline_with (made_build pipelines value) (filter_map (made_stage pipelines) (list_at (codes "stages") value)))) (name_of value)
 
 abbrev pub made_manifest : Data → Manifest
 made_manifest value = record {

@@ -1,12 +1,12 @@
 -- What holds of the pipelines and the stages of a value in which nothing is wrong.
-use Rattle.std.specs.Prelude.{◌≡◌, ℕ, ◌+◌, false, not, ◌&&◌, ◌||◌, IsTrue, IsSome, List, [], ◌∷◌, codes, is_some, length, map}
+use Rattle.std.specs.Prelude.{◌≡◌, ℕ, ◌+◌, false, not, ◌&&◌, ◌||◌, IsTrue, IsSome, List, [], ◌∷◌, codes, length, map}
 use Rattle.std.specs.List.{AllByRecursion}
 use Rattle.serde_json.specs.Data.{Data, Members, no_members, member}
 use Rattle.osb_shape.specs.Forms.{is_pipeline_name}
 use Rattle.osb_shape.specs.Values.{there_is, text_at, list_at, members_at, is_single}
 use Rattle.osb_shape.specs.Numbers.{bad_numbers, bad_members}
 use Rattle.osb_shape.specs.References.{references_at, is_tree_input, is_files_input}
-use Rattle.osb_manifest.specs.Walks.{name_of, options_of, stage_kind, is_unknown, faults_of, is_lost, are_digests}
+use Rattle.osb_manifest.specs.Walks.{name_of, options_of, stage_kind, is_unknown, faults_of, is_lost, is_build_lost, are_digests}
 use Rattle.osb_manifest.specs.declared.manifests.Manifest.{Manifest}
 
 -- a stage has a type that is known, and takes its options
@@ -16,10 +16,9 @@ pub record IsRightStage (stage : Data) : Type 0 where
   pub known : is_unknown (stage_kind stage) ≡ false
   pub taken : faults_of (stage_kind stage) ≡ []
 
--- a pipeline has a name, no build pipeline, and stages that are right
+-- a pipeline has a name, and stages that are right
 pub record IsRightPipeline (pipeline : Data) : Type 0 where
   pub named : IsTrue (there_is is_pipeline_name (name_of pipeline))
-  pub alone : is_some (text_at (codes "build") pipeline) ≡ false
   pub stages : AllByRecursion IsRightStage (list_at (codes "stages") pipeline)
 
 -- each member of an object is right
@@ -39,10 +38,15 @@ pub record IsRightInput (whole : Data) (i : ℕ) (input : Data) : Type 0 where
 abbrev pub HasRightInputs : Data → ℕ → Data → Type 0
 HasRightInputs whole i stage = AllMembers (IsRightInput whole i) (members_at (codes "inputs") stage)
 
--- the inputs of all stages of pipelines whose places count from a first one
-abbrev pub HaveRightInputs : Data → ℕ → List Data → Type 0
-HaveRightInputs whole i [] = Unit {0}
-HaveRightInputs whole i (pipeline ∷ pipelines) = AllByRecursion (HasRightInputs whole i) (list_at (codes "stages") pipeline) × HaveRightInputs whole (i + 1) pipelines
+-- the pipeline at a place is built with none but pipelines before it: its `build`, and the inputs of its stages
+pub record IsBuiltBefore (whole : Data) (i : ℕ) (pipeline : Data) : Type 0 where
+  pub build : is_build_lost whole i pipeline ≡ false
+  pub inputs : AllByRecursion (HasRightInputs whole i) (list_at (codes "stages") pipeline)
+
+-- each of the pipelines whose places count from a first one
+abbrev pub AreBuiltBefore : Data → ℕ → List Data → Type 0
+AreBuiltBefore whole i [] = Unit {0}
+AreBuiltBefore whole i (pipeline ∷ pipelines) = IsBuiltBefore whole i pipeline × AreBuiltBefore whole (i + 1) pipelines
 
 -- how many stages each pipeline of a value has
 abbrev pub stage_counts : List Data → List ℕ

@@ -13,7 +13,7 @@ use Rattle.osb_recipe.specs.declared.kinds.KindFault.TheVariants as kinds
 use Rattle.osb_shape.specs.Firsts.{first}
 use Rattle.osb_shape.specs.Values.{is_object, there_is, list_at, text_at, is_text, members_in, members_at}
 use Rattle.osb_shape.specs.Places.{known, Place, place_text, pipeline_place, stage_place, input_place, source_place, item_place, member_place}
-use Rattle.osb_shape.specs.References.{references_at, is_tree_input, is_files_input, is_inline, is_curl, referred_first}
+use Rattle.osb_shape.specs.References.{references_at, is_tree_input, is_files_input, is_inline, is_curl, referred, referred_first}
 use Rattle.osb_shape.specs.Shapes.{Shape, top_shape, pipeline_shape, stage_shape, input_shape, source_shape, item_shape, offending}
 use Rattle.osb_shape.specs.Numbers.{bad_numbers, bad_members}
 use Rattle.osb_manifest.specs.declared.conditions.Condition.{Condition}
@@ -25,6 +25,10 @@ use Rattle.osb_manifest.specs.declared.manifests.Refusal.TheVariants as refusals
 
 abbrev pub name_of : Data → Option (List ℕ)
 name_of pipeline = text_at (codes "name") pipeline
+
+-- the name of the pipeline that a pipeline's `build` refers to
+abbrev pub build_name : Data → Option (List ℕ)
+build_name pipeline = option_and_then referred (text_at (codes "build") pipeline)
 
 -- the options of a stage, which are empty where it has no object of them
 abbrev pub options_of : Data → Data
@@ -148,11 +152,15 @@ abbrev pub duplicate : Data → Object → List Refusal
 duplicate whole (at_pipeline i value) = when (there_is (is_taken (list_at (codes "pipelines") whole) i) (name_of value)) (refusals.DuplicatePipeline (place_text (pipeline_place i)))
 duplicate whole here = []
 
--- 9: the reference of a tree is `name:` and the name of a pipeline before its own
+-- 9: the reference of a tree is `name:` and the name of a pipeline before its own, and so is a `build`
 abbrev pub is_lost : Data → ℕ → Data → Bool
 is_lost whole i input = is_tree_input input && not (there_is (is_taken (list_at (codes "pipelines") whole) i) (referred_first (references_at input)))
 
+abbrev pub is_build_lost : Data → ℕ → Data → Bool
+is_build_lost whole i pipeline = is_some (text_at (codes "build") pipeline) && not (there_is (is_taken (list_at (codes "pipelines") whole) i) (build_name pipeline))
+
 abbrev pub unknown_reference : Data → Object → List Refusal
+unknown_reference whole (at_pipeline i value) = when (is_build_lost whole i value) (refusals.UnknownReference (place_text (member_place (pipeline_place i) (codes "build"))))
 unknown_reference whole (at_input i j name value) = when (is_lost whole i value) (refusals.UnknownReference (place_text (input_place i j name)))
 unknown_reference whole here = []
 
@@ -200,11 +208,6 @@ abbrev pub wrong_options : Object → List Refusal
 wrong_options (at_stage i j value) = map (refusals.Options (options_place i j)) (faults_of (stage_kind value))
 wrong_options here = []
 
--- 16: build pipelines
-abbrev pub not_yet : Object → List Refusal
-not_yet (at_pipeline i value) = when (is_some (text_at (codes "build") value)) (refusals.NotYet (place_text (member_place (pipeline_place i) (codes "build"))))
-not_yet here = []
-
 -- ---- the refusals of a manifest
 
 -- the conditions, the least number first
@@ -212,8 +215,7 @@ abbrev pub all_conditions : List Condition
 all_conditions =
     conditions.NoObject ∷ conditions.OtherVersion ∷ conditions.TooMany ∷ conditions.WrongMember ∷ conditions.BadNumber
     ∷ conditions.Duplicate ∷ conditions.UnknownReference ∷ conditions.UnknownStage ∷ conditions.UnknownInput
-    ∷ conditions.UnknownSource ∷ conditions.BadChecksum ∷ conditions.OtherEncoding ∷ conditions.WrongOptions
-    ∷ conditions.NotYetRead ∷ []
+    ∷ conditions.UnknownSource ∷ conditions.BadChecksum ∷ conditions.OtherEncoding ∷ conditions.WrongOptions ∷ []
 
 abbrev pub applies : Data → Condition → Object → List Refusal
 applies whole conditions.NoObject here = not_object here
@@ -229,7 +231,6 @@ applies whole conditions.UnknownSource here = unknown_source here
 applies whole conditions.BadChecksum here = bad_checksum here
 applies whole conditions.OtherEncoding here = other_encoding here
 applies whole conditions.WrongOptions here = wrong_options here
-applies whole conditions.NotYetRead here = not_yet here
 
 unfoldable pub everywhere : Data → Condition → List Refusal
 everywhere whole condition = flat_map (applies whole condition) (objects whole)

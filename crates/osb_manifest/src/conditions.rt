@@ -11,7 +11,7 @@ ghost use Rattle.osb_shape.specs.References.{references_at, is_files_input};
 ghost use Rattle.osb_shape.specs.Shapes.{offending};
 ghost use Rattle.osb_shape.specs.Values.{list_of, members_at};
 ghost use Rattle.osb_manifest.specs.Seen.{object_of};
-ghost use Rattle.osb_manifest.specs.Walks.{at_stage, name_of, is_taken, is_lost, are_digests, value_of, place_of, shape_of, applies, not_object, other_version, too_many, wrong_members, wrong_numbers, duplicate, unknown_reference, unknown_stage, unknown_input, unknown_source, bad_checksum, other_encoding, wrong_options, not_yet};
+ghost use Rattle.osb_manifest.specs.Walks.{at_stage, name_of, is_taken, is_lost, is_build_lost, are_digests, value_of, place_of, shape_of, applies, not_object, other_version, too_many, wrong_members, wrong_numbers, duplicate, unknown_reference, unknown_stage, unknown_input, unknown_source, bad_checksum, other_encoding, wrong_options};
 
 use crate::Refusal;
 use crate::objects::Object;
@@ -24,7 +24,7 @@ use osb_shape::places::{
     place_in_top, source_place, stage_place, top_place,
 };
 use osb_shape::references::{
-    is_curl, is_files_input, is_inline, is_tree_input, references_at, referred_first,
+    is_curl, is_files_input, is_inline, is_tree_input, references_at, referred, referred_first,
 };
 use osb_shape::shapes::{
     first_offending, input_rows, item_rows, pipeline_rows, source_rows, stage_rows, top_rows,
@@ -66,8 +66,6 @@ pub enum Condition {
     OtherEncoding,
     /// 15
     WrongOptions,
-    /// 16
-    NotYetRead,
 }
 
 /// The first refusal of an object for a condition.
@@ -93,7 +91,6 @@ pub fn applies(
         Condition::BadChecksum => bad_checksum(alloc, here),
         Condition::OtherEncoding => other_encoding(alloc, here),
         Condition::WrongOptions => wrong_options(alloc, here),
-        Condition::NotYetRead => not_yet(alloc, here),
     }
 }
 
@@ -246,6 +243,9 @@ fn unknown_reference(
     ensures { IfOk result (λ found. found ≡ first (unknown_reference (view whole.now) (object_of here.entry))) }
 {
     match here {
+        Object::Pipeline(i, value) if is_build_lost(whole, i, value) => Ok(Some(
+            Refusal::UnknownReference(place_in_pipeline(alloc, i, "build")?),
+        )),
         Object::Input(i, j, name, value) if is_lost(alloc, whole, i, value)? => {
             Ok(Some(Refusal::UnknownReference(input_place(alloc, i, j, name)?)))
         }
@@ -264,6 +264,19 @@ fn is_lost(alloc: Global, whole: &Value, i: usize, input: &Value) -> Result<bool
     match referred_first(&references) {
         Some(name) => Ok(!is_taken(list_at(whole, "pipelines"), i, name)),
         None => Ok(true),
+    }
+}
+
+/// Whether a pipeline has a `build` that names no pipeline before its own.
+fn is_build_lost(whole: &Value, i: usize, pipeline: &Value) -> bool
+    ensures { result ≡ is_build_lost (view whole.now) i (view pipeline.now) }
+{
+    let Some(reference) = text_at(pipeline, "build") else {
+        return false;
+    };
+    match referred(reference) {
+        Some(name) => !is_taken(list_at(whole, "pipelines"), i, name),
+        None => true,
     }
 }
 
@@ -371,17 +384,6 @@ fn wrong_options(alloc: Global, here: Object) -> Result<Option<Refusal>, NoMemor
         Some(Err(KindFault::Options(fault))) => Ok(Some(Refusal::Options(
             place_in_stage(alloc, i, j, "options")?,
             fault,
-        ))),
-        _ => Ok(None),
-    }
-}
-
-fn not_yet(alloc: Global, here: Object) -> Result<Option<Refusal>, NoMemory>
-    ensures { IfOk result (λ found. found ≡ first (not_yet (object_of here.entry))) }
-{
-    match here {
-        Object::Pipeline(i, value) if text_at(value, "build").is_some() => Ok(Some(Refusal::NotYet(
-            place_in_pipeline(alloc, i, "build")?,
         ))),
         _ => Ok(None),
     }

@@ -11,15 +11,17 @@ ghost use Rattle.osb_shape.specs.Numbers.{bad_numbers};
 ghost use Rattle.osb_manifest.specs.Walks.{is_unknown, faults_of, refusals_of};
 ghost use Rattle.osb_manifest.specs.Right.{IsRightStage, IsRightPipeline, stage_counts, IsKept};
 ghost use Rattle.osb_manifest.specs.Named.{named};
-ghost use Rattle.osb_manifest.specs.Manifests.{made_stage, made_pipeline, made_manifest};
+ghost use Rattle.osb_manifest.specs.Manifests.{made_stage, made_build, made_pipeline, made_manifest};
 
-use crate::making_inputs::make_inputs;
+use crate::making_inputs::{make_inputs, place_named};
 use crate::making_items::make_items;
 use crate::{Manifest, Pipeline, Pipelines, Stage};
 use osb_base::{List, NoMemory, Text};
 use osb_pyjson::{PyFault, py_text};
 use osb_recipe::{KindFault, StageKind};
+use osb_shape::references::referred;
 use osb_shape::values::{list_at, object_at, text_at};
+use osb_tree::Shared;
 use serde_json::{Map, Value};
 use std::alloc::{AllocError, Global};
 
@@ -64,10 +66,18 @@ fn make_pipeline(
     Ok((
         name,
         Pipeline {
-            build: None,
+            build: build_place(pipelines, value),
             stages,
         },
     ))
+}
+
+/// The place of the pipeline that the `build` of a pipeline of a list names.
+fn build_place(pipelines: &[Value], value: &Value) -> Option<usize>
+    ensures { result ≡ made_build (list_of (items_view pipelines.now)) (view value.now) }
+{
+    let name = referred(text_at(value, "build")?)?;
+    place_named(pipelines, name)
 }
 
 fn make_stages(alloc: Global, pipelines: &[Value], values: &[Value]) -> Result<Vec<Stage>, NoMemory>
@@ -90,7 +100,7 @@ fn make_stage(alloc: Global, pipelines: &[Value], value: &Value) -> Result<Stage
     let empty = Value::Object(Map::new(alloc));
     let options = object_at(value, "options", &empty);
     Ok(Stage {
-        kind: known_kind(alloc, text, options)?,
+        kind: Shared::new(alloc, known_kind(alloc, text, options)?)?,
         type_text: Text::new(alloc, text)?,
         options_text: text_of(alloc, options)?,
         inputs: List::new(make_inputs(alloc, pipelines, value)?),

@@ -94,7 +94,7 @@ fn make_tree(
 }
 
 /// The place of the pipeline of a name in a list.
-fn place_named(pipelines: &[Value], name: &str) -> Option<usize>
+pub fn place_named(pipelines: &[Value], name: &str) -> Option<usize>
     ensures { result ≡ place_named (list_of (items_view pipelines.now)) name.now }
 {
     for (place, pipeline) in pipelines.iter().enumerate() {

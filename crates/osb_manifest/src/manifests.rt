@@ -2,10 +2,10 @@ use crate::Pipelines;
 use osb_base::{Digest, List, NoMemory, Text};
 use osb_recipe::StageKind;
 use osb_sources::Items;
-use osb_tree::OptionFault;
+use osb_tree::{OptionFault, Shared};
 
 /// What a manifest asks for.
-#[derive(Debug, Drop)]
+#[derive(Drop)]
 pub struct Manifest {
     /// By name, in the manifest's order.
     pub pipelines: Pipelines,
@@ -13,7 +13,7 @@ pub struct Manifest {
 }
 
 /// How a tree is made: from the empty tree, stage after stage.
-#[derive(Debug, Drop)]
+#[derive(Drop)]
 pub struct Pipeline {
     /// The place of the pipeline in whose tree the stages run.
     pub build: Option<usize>,
@@ -21,9 +21,9 @@ pub struct Pipeline {
 }
 
 /// One step of a pipeline.
-#[derive(Debug, Drop)]
+#[derive(Drop)]
 pub struct Stage {
-    pub kind: StageKind,
+    pub kind: Shared<StageKind>,
     /// The name of its type, as `org.osbuild.mkdir`.
     pub type_text: Text,
     /// Python's text of its options.
@@ -61,7 +61,7 @@ pub enum Refusal {
     BadNumber(Text),
     /// 8: a pipeline before this one has its name.
     DuplicatePipeline(Text),
-    /// 9: the reference of a tree is not `name:` and the name of a pipeline before its own.
+    /// 9: a `build`, or the reference of a tree, is not `name:` and the name of a pipeline before its own.
     UnknownReference(Text),
     /// 10: no stage has this type.
     UnknownStage(Text),
@@ -75,8 +75,6 @@ pub enum Refusal {
     Encoding(Text),
     /// 15: the stage refuses its options.
     Options(Text, OptionFault),
-    /// 16: what stands there is not read yet.
-    NotYet(Text),
     NoMemory,
 }
 

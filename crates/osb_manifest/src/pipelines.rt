@@ -11,7 +11,7 @@ use std::alloc::Global;
 use std::marker::Model;
 
 /// The pipelines of a manifest by name, in its order.
-#[derive(Debug, Drop)]
+#[derive(Drop)]
 pub struct Pipelines {
     by_name: IndexMap<String, Pipeline>,
 }

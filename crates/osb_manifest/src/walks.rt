@@ -16,7 +16,7 @@ use serde_json::{Map, Value};
 use std::alloc::Global;
 
 /// The conditions, the least number first.
-static CONDITIONS: [Condition; 14] = [
+static CONDITIONS: [Condition; 13] = [
     Condition::NoObject,
     Condition::OtherVersion,
     Condition::TooMany,
@@ -30,7 +30,6 @@ static CONDITIONS: [Condition; 14] = [
     Condition::BadChecksum,
     Condition::OtherEncoding,
     Condition::WrongOptions,
-    Condition::NotYetRead,
 ];
 
 /// The first refusal of a manifest: of the least number that applies anywhere, at its first place.

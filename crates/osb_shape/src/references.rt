@@ -219,8 +219,8 @@ pub fn is_curl(source: &str) -> bool
 }
 
 /// What stands behind `name:`, where that begins a reference.
-fn referred(reference: &str) -> Option<&str>
-    ensures { option_map (λ name. name.now) result ≡ referred reference.now }
+pub fn referred(reference: &str) -> Option<&str>
+    ensures name { option_map (λ name. name.now) result ≡ referred reference.now }
 {
     reference.strip_prefix("name:")
 }

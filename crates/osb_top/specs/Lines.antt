@@ -51,7 +51,6 @@ refusal_words (refusals.UnknownSource place) = numbered 12 place
 refusal_words (refusals.BadChecksum place) = numbered 13 place
 refusal_words (refusals.Encoding place) = numbered 14 place
 refusal_words (refusals.Options place fault) = numbered 15 place ++ (codes " " ++ option_words fault)
-refusal_words (refusals.NotYet place) = numbered 16 place
 refusal_words refusals.NoMemory = codes "want of memory"
 
 -- the number of a stage's fault, and what it is about

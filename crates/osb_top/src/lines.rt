@@ -203,7 +203,6 @@ fn refusal_words(alloc: Global, refusal: &Refusal) -> Result<String, NoMemory>
             let fault = option_words(alloc, fault)?;
             format!(in alloc; "{place} {fault}")
         }
-        Refusal::NotYet(place) => numbered_name(alloc, 16, place.as_str()),
         Refusal::NoMemory => String::from_str(alloc, "want of memory"),
     }
 }

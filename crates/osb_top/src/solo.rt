@@ -117,7 +117,7 @@ fn stage_tree(
     let inputs = Inputs {
         trees: List::new(trees),
     };
-    stage.kind.apply(alloc, tree, &inputs)
+    stage.kind.get().apply(alloc, tree, &inputs)
 }
 
 /// The trees of a stage's inputs, by name.
