@@ -7,3 +7,5 @@ pub mod Recipes
 pub mod Interning
 pub mod Tables
 pub mod Meanings
+pub mod Plans
+pub mod Laws

@@ -42,10 +42,11 @@ IsChainFrom table base (key ∷ keys) = ((recipe : Origin) × (slice_get table.r
 abbrev pub IsChain : TableData → List Key → Type 0
 IsChain table chain = IsChainFrom table Empty chain
 
+-- the tree of the last key, or else this one
+abbrev pub last_from : TreeRef → List Key → TreeRef
+last_from ref [] = ref
+last_from ref (key ∷ keys) = last_from (Of key) keys
+
 -- the tree of the last key, or the empty tree
 abbrev pub last_of : List Key → TreeRef
 last_of keys = last_from Empty keys
-  where
-    last_from : TreeRef → List Key → TreeRef
-    last_from ref [] = ref
-    last_from ref (key ∷ keys) = last_from (Of key) keys

@@ -3,6 +3,7 @@
 
 mod files_trees;
 mod kinds;
+pub mod laws;
 mod outcomes;
 mod plans;
 mod recipes;

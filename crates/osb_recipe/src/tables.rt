@@ -54,6 +54,13 @@ impl Table {
         &self.blobs
     }
 
+    /// The number of the blob that is equal to these bytes, or the number of blobs.
+    pub fn blob_number(&self, bytes: &[u8]) -> u64
+        ensures number { result ≡ place_in same_bytes self.now.blobs bytes.now }
+    {
+        place_of_blob(&self.blobs, bytes) as u64
+    }
+
     /// The number of the equal blob, or of this one, which is then added.
     pub fn intern_blob(&mut self, bytes: Bytes) -> Result<u64, NoMemory>
         ensures number { IfOk result (λ number. number ≡ place_in same_bytes self.old.blobs bytes) }
