@@ -2,8 +2,7 @@
 use Rattle.std.proofs.Common.{◌≡◌, ◌↔◌, IsTrue, ℕ, ◌==◌, Bool, true, false, ◌&&◌, List, [], ◌∷◌, Option, Some, None, Result, Ok, refl, sym, ap, ap₂, ◌∙◌, subst}
 use Rattle.std.proofs.lemmas.Bool.{false≢true, eqb-true, eq-eqb}
 use Rattle.std.specs.Cmp.Derive.{both_true}
-use Rattle.std.specs.Cmp.Lexicographic.{pointwise, same_text}
-use Rattle.serde_json.specs.Data.{Data}
+use Rattle.std.specs.Cmp.Lexicographic.{pointwise}
 use Rattle.osb_pyjson.specs.PyText.{py_data}
 use Rattle.osb_pyjson.proofs.Law.{same_text as same_value}
 use Rattle.osb_tree.specs.declared.numbers.Key.{Key}

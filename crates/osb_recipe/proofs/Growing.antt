@@ -1,10 +1,10 @@
 -- Tables that grow stay tables.
-use Rattle.std.proofs.Common.{◌≡◌, ℕ, ◌+◌, ◌<◌, ◌≤◌, zero, suc, List, [], ◌∷◌, ◌++◌, length, Option, Some, None, refl, sym, ap, ◌∙◌, subst, arith, length-append}
+use Rattle.std.proofs.Common.{◌≡◌, ℕ, ◌+◌, ◌<◌, ◌≤◌, List, [], ◌∷◌, ◌++◌, length, Option, Some, None, sym, ap, subst, arith, length-append}
 use Rattle.std.specs.Prelude.{slice_get}
-use Rattle.std.specs.List.{All, AllByRecursion}
+use Rattle.std.specs.List.{AllByRecursion}
 use Rattle.std.proofs.lemmas.List.Elements.{All-weaker}
 use Rattle.osb_recipe.specs.Recipes.{Origin, IsRefBelow, IsBuildBelow, IsInputBelow, IsBelow}
-use Rattle.osb_recipe.specs.Tables.{AreRecipes, IsReadRecipe, TableData, IsTable}
+use Rattle.osb_recipe.specs.Tables.{AreRecipes, IsReadRecipe, IsTable}
 use Rattle.osb_recipe.proofs.Interning.{slice_get-pushed, AllByRecursion-pushed}
 use Rattle.osb_recipe.specs.declared.references.TreeRef.{TreeRef}
 use Rattle.osb_recipe.specs.declared.references.TreeRef.TheVariants.{Empty, Of}

@@ -2,6 +2,7 @@ pub mod FilesTrees
 pub mod Exact
 pub mod Interning
 pub mod Growing
+pub mod KindTypes
 pub mod Keys
 pub mod Meanings
 pub mod Chains

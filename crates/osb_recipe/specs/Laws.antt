@@ -1,5 +1,5 @@
 -- What later crates rest on: what interning keeps, and what chains mean.
-use Rattle.std.specs.Prelude.{◌≡◌, ◌↔◌, ℕ, List, ◌++◌, slice_get, Option, Some}
+use Rattle.std.specs.Prelude.{◌≡◌, ◌↔◌, List, ◌++◌}
 use Rattle.osb_tree.specs.declared.numbers.Key.{Key}
 use Rattle.osb_recipe.specs.Works.{tree_of}
 use Rattle.osb_recipe.specs.Recipes.{Origin, same_recipe}

@@ -1,5 +1,5 @@
 -- The programs that stages run, which have to be in the tree that they run in.
-use Rattle.std.specs.Prelude.{ℕ, ◌==◌, Bool, false, not, List, [], ◌∷◌, codes, find, bit_and, Option, Some, None, option_map}
+use Rattle.std.specs.Prelude.{◌==◌, Bool, false, not, List, [], ◌∷◌, codes, find, bit_and, Option, Some, None, option_map}
 use Rattle.osb_tree.specs.Paths.{Names}
 use Rattle.osb_tree.specs.Trees.{Listing, node_at}
 use Rattle.osb_tree.specs.declared.nodes.Node.{Node}

@@ -1,6 +1,5 @@
 -- A stage that can run, what it makes of a tree, and what several make, one after another.
 use Rattle.std.specs.Prelude.{ℕ, ◌+◌, List, [], ◌∷◌, Option, Some, None, option_map, Result, Ok, Err}
-use Rattle.osb_tree.specs.Paths.{Names}
 use Rattle.osb_tree.specs.Trees.{Listing, empty_tree}
 use Rattle.osb_tree.specs.declared.faults.Inputs.{Inputs}
 use Rattle.osb_tree.specs.declared.faults.PutFault.{PutFault}

@@ -83,6 +83,8 @@ impl Table {
         ensures equal { IfOk result (λ key. slice_get self.new.recipes key.0 ≡ Some recipe) }
         ensures recipes { OnOk result (self.new.recipes ≡ interned same_recipe self.old.recipes recipe) }
         ensures blobs { self.new.blobs ≡ self.old.blobs }
+        ensures within { IfOk result (λ key. key.0 < length self.new.recipes) }
+        ensures grown { length self.old.recipes ≤ length self.new.recipes }
         ensures err { OnErr result (self.new ≡ self.old) }
     {
         let place = place_of(&self.recipes, &recipe);

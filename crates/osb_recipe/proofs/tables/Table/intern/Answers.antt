@@ -1,5 +1,5 @@
 use Rattle.std.proofs.Common.{length, sym, subst, arith}
-use Rattle.osb_recipe.specs.Recipes.{Origin, IsBelow}
+use Rattle.osb_recipe.specs.Recipes.{IsBelow}
 use Rattle.osb_recipe.specs.Tables.{TableData, IsReadRecipe}
 use Rattle.osb_recipe.proofs.Growing.{pushed_at, table_with_recipe}
 use Rattle.osb_recipe.proofs.tables.Table.intern.Goals as goal
