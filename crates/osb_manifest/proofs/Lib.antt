@@ -1,6 +1,7 @@
 pub mod Depths
 pub mod Distinct
 pub mod Json
+pub mod Kept
 pub mod Names
 pub mod NeededLaws
 pub mod Needs

@@ -1,17 +1,21 @@
 -- Where no condition applies, pipelines and stages are right.
-use Rattle.std.proofs.Common.{◌≡◌, ℕ, ◌+◌, Bool, true, false, true≢false, IsSome, not, ◌&&◌, ◌||◌, cond, if◌then◌else◌, List, [], ◌∷◌, ◌++◌, codes, map, filter, Option, Some, None, is_some, option_and_then, refl, sym, ◌∙◌}
+use Rattle.std.proofs.Common.{◌≡◌, ℕ, ◌+◌, Bool, true, false, true≢false, IsSome, not, ◌&&◌, ◌||◌, cond, if◌then◌else◌, List, [], ◌∷◌, ◌++◌, codes, map, filter, Option, Some, None, is_some, option_and_then, refl, sym, ◌∙◌, Ordering, Less, Equal, Greater, subst}
 use Rattle.std.specs.List.{AllByRecursion, flat_map}
+use Rattle.std.specs.Ordering.{nat_cmp, match_ordering}
+use Rattle.std.specs.Option.{IfSome}
+use Rattle.std.specs.Cmp.Lexicographic.{slice_cmp}
 use Rattle.std.proofs.lemmas.List.Concat.{flat_map-append}
+use Rattle.std.proofs.lemmas.Map.Lookups.{exact_bytes}
 use Rattle.serde_json.specs.Data.{Data, null, boolean, number, string, array, object, Items, no_items, item, Members, no_members, member}
-use Rattle.serde_json.specs.Find.{get, as_str}
+use Rattle.serde_json.specs.Find.{get, as_str, get_member}
 use Rattle.osb_shape.specs.Forms.{is_pipeline_name}
 use Rattle.osb_shape.specs.Firsts.{first}
-use Rattle.osb_shape.specs.Values.{is_object, there_is, list_of, list_in, list_at, members_in, members_at, all_items, all_members, is_single}
+use Rattle.osb_shape.specs.Values.{is_object, there_is, list_of, list_in, list_at, members_in, members_at, all_items, all_members, is_single, text_at}
 use Rattle.osb_shape.specs.References.{references_in, references_at, is_references, is_one_reference, is_tree_input, is_files_input}
 use Rattle.osb_shape.specs.Numbers.{bad_numbers, bad_members}
-use Rattle.osb_shape.specs.Places.{place_text, pipeline_place, stage_place, input_place}
-use Rattle.osb_shape.specs.Shapes.{Row, Shape, may_have, must_have, top_shape, pipeline_shape, stage_shape, input_shape, is_broken_at, is_broken, broken_names, offending}
-use Rattle.osb_manifest.specs.Walks.{options_of, stage_kind, Object, at_top, at_pipeline, at_stage, at_input, by_name, input_objects, stage_objects, pipeline_objects, source_objects, in_order, objects, is_unknown, faults_of, is_lost, is_build_lost, are_digests, applies, everywhere, all_conditions, refusals_of}
+use Rattle.osb_shape.specs.Places.{place_text, pipeline_place, stage_place, input_place, source_place, item_place}
+use Rattle.osb_shape.specs.Shapes.{Row, Shape, may_have, must_have, top_shape, pipeline_shape, stage_shape, input_shape, is_broken_at, is_broken, broken_names, offending, source_shape, item_shape}
+use Rattle.osb_manifest.specs.Walks.{options_of, stage_kind, Object, at_top, at_pipeline, at_stage, at_input, by_name, input_objects, stage_objects, pipeline_objects, source_objects, in_order, objects, is_unknown, faults_of, is_lost, is_build_lost, are_digests, applies, everywhere, all_conditions, refusals_of, at_source, at_item, item_objects, items_of}
 use Rattle.osb_manifest.specs.Right.{IsRightStage, IsRightPipeline, AllMembers, IsRightInput, HasRightInputs, IsBuiltBefore, AreBuiltBefore}
 use Rattle.osb_shape.specs.declared.shapes.Form.TheVariants as forms
 use Rattle.osb_manifest.specs.declared.manifests.Refusal.TheVariants as refusals
@@ -89,6 +93,10 @@ none_first : {A : Type 0} (xs : List A) → is_some (first xs) ≡ false → xs 
 none_first [] e = refl
 none_first (x ∷ xs) e = absurd (true≢false e)
 
+-- an item has data
+abbrev pub HasData : Data → Type 0
+HasData value = IsSome (text_at (codes "data") value)
+
 -- ---- the walk
 
 module _ (whole : Data) where
@@ -154,15 +162,17 @@ module _ (whole : Data) where
   clean e conditions.OtherEncoding = (none_each (everywhere whole) all_conditions e).1.1.1.1.1.1.1.1.1.1.1.0
   clean e conditions.WrongOptions = (none_each (everywhere whole) all_conditions e).1.1.1.1.1.1.1.1.1.1.1.1.0
 
-  top_objects : refusals_of whole ≡ [] → AreObjects (list_at (codes "pipelines") whole)
-  top_objects e =
+  top_rows : refusals_of whole ≡ [] → AllByRecursion (λ row. is_broken whole row ≡ false) top_shape.rows
+  top_rows e =
       let h = clean e in
       let below = in_order pipeline_objects 0 (list_at (codes "pipelines") whole) in
       let sources = by_name source_objects (members_at (codes "sources") whole) in
       let here = clean_first (at_top whole) (below ++ sources) h in
       let is : is_object whole ≡ true = false-from_not (is_object whole) (not-from_when (not (is_object whole)) (refusals.NotObject (place_text [])) (here conditions.NoObject)) in
-      let rows = rows_hold top_shape whole is (none-from_map (refusals.Member (place_text [])) (offending top_shape whole) (here conditions.WrongMember)) in
-      objects_in (codes "pipelines") (get (codes "pipelines") whole) rows.0
+      rows_hold top_shape whole is (none-from_map (refusals.Member (place_text [])) (offending top_shape whole) (here conditions.WrongMember))
+
+  top_objects : refusals_of whole ≡ [] → AreObjects (list_at (codes "pipelines") whole)
+  top_objects e = objects_in (codes "pipelines") (get (codes "pipelines") whole) (top_rows e).0
 
   pub right : refusals_of whole ≡ [] → AllByRecursion IsRightPipeline (list_at (codes "pipelines") whole)
   right e =
@@ -226,3 +236,58 @@ module _ (whole : Data) where
       let below = in_order pipeline_objects 0 (list_at (codes "pipelines") whole) in
       let sources = by_name source_objects (members_at (codes "sources") whole) in
       all_built_before 0 (list_at (codes "pipelines") whole) (top_objects e) (clean_left below sources (clean_rest (at_top whole) (below ++ sources) h))
+
+  -- ---- sources
+
+  abbrev IsSource : List ℕ → Data → Type 0
+  IsSource name value = (is_object value ≡ true) × IsClean (source_objects name value)
+
+  by_order : (o : Ordering) (name other : List ℕ) (value : Data) (found : Option Data) → (o ≡ Equal → name ≡ other) → IsSource other value → IfSome found (IsSource name) → IfSome (match_ordering o found (Some value) found) (IsSource name)
+  by_order Less name other value found same h k = k
+  by_order Equal name other value found same h k = subst (λ (n : List ℕ). IsSource n value) (sym (same refl)) h
+  by_order Greater name other value found same h k = k
+
+  source_named : (name : List ℕ) (sources : Members) → all_members is_object sources ≡ true → IsClean (by_name source_objects sources) → IfSome (get_member name sources) (IsSource name)
+  source_named name no_members is h = tt
+  source_named name (member other value rest) is h =
+      let here = both (is_object value) (all_members is_object rest) is in
+      by_order (slice_cmp nat_cmp name other) name other value (get_member name rest) (exact_bytes name other) (here.0, clean_left (source_objects other value) (by_name source_objects rest) h)
+      (source_named name rest here.1 (clean_right (source_objects other value) (by_name source_objects rest) h))
+
+  source_of : (name : List ℕ) → refusals_of whole ≡ [] → IfSome (get_member name (members_at (codes "sources") whole)) (IsSource name)
+  source_of name e =
+      let h = clean e in
+      let below = in_order pipeline_objects 0 (list_at (codes "pipelines") whole) in
+      let sources = by_name source_objects (members_at (codes "sources") whole) in
+      source_named name (members_at (codes "sources") whole) (objects_named (codes "sources") (get (codes "sources") whole) (top_rows e).1.0) (clean_right below sources (clean_rest (at_top whole) (below ++ sources) h))
+
+  -- the items of a source are listed by their digests
+  pub listed_by_digest : (name : List ℕ) → refusals_of whole ≡ [] → are_digests (items_of name whole) ≡ true
+  listed_by_digest name e = by_found (get_member name (members_at (codes "sources") whole)) (source_of name e)
+    where
+      by_found : (found : Option Data) → IfSome found (IsSource name) → are_digests (members_in (option_and_then (get (codes "items")) found)) ≡ true
+      by_found None k = refl
+      by_found (Some value) k =
+          false-from_not (are_digests (members_at (codes "items") value))
+          (not-from_when (not (are_digests (members_at (codes "items") value))) _ (clean_first (at_source name value) (by_name (item_objects name) (members_at (codes "items") value)) k.1 conditions.BadChecksum))
+
+  -- and those that the manifest holds have data
+  have_data : (items : Members) → all_members is_object items ≡ true → IsClean (by_name (item_objects (codes "org.osbuild.inline")) items) → AllMembers HasData items
+  have_data no_members is h = tt
+  have_data (member name value rest) is h =
+      let here = both (is_object value) (all_members is_object rest) is in
+      let inline = codes "org.osbuild.inline" in
+      let r = clean_first (at_item inline name value) [] (clean_left (item_objects inline name value) (by_name (item_objects inline) rest) h) in
+      let rows = rows_hold (item_shape inline) value here.0 (none-from_map (refusals.Member (place_text (item_place inline name))) (offending (item_shape inline) value) (r conditions.WrongMember)) in
+      (text_in (codes "data") (get (codes "data") value) rows.1.0, have_data rest here.1 (clean_right (item_objects inline name value) (by_name (item_objects inline) rest) h))
+
+  pub held_with_data : refusals_of whole ≡ [] → AllMembers HasData (items_of (codes "org.osbuild.inline") whole)
+  held_with_data e = by_found (get_member (codes "org.osbuild.inline") (members_at (codes "sources") whole)) (source_of (codes "org.osbuild.inline") e)
+    where
+      by_found : (found : Option Data) → IfSome found (IsSource (codes "org.osbuild.inline")) → AllMembers HasData (members_in (option_and_then (get (codes "items")) found))
+      by_found None k = tt
+      by_found (Some value) k =
+          let inline = codes "org.osbuild.inline" in
+          let items = by_name (item_objects inline) (members_at (codes "items") value) in
+          let rows = rows_hold (source_shape inline) value k.0 (none-from_map (refusals.Member (place_text (source_place inline))) (offending (source_shape inline) value) (clean_first (at_source inline value) items k.1 conditions.WrongMember)) in
+          have_data (members_at (codes "items") value) (objects_named (codes "items") (get (codes "items") value) rows.0) (clean_rest (at_source inline value) items k.1)

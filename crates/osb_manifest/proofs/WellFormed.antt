@@ -47,7 +47,7 @@ below_later : (i n : ℕ) (found : Option ℕ) → IfSome found (λ place. place
 below_later i n None k = tt
 below_later i n (Some place) k = omega arith
 
-none_taken : (test : Data → Bool) (values : List Data) → list_any test (take 0 values) ≡ false
+pub none_taken : (test : Data → Bool) (values : List Data) → list_any test (take 0 values) ≡ false
 none_taken test [] = refl
 none_taken test (value ∷ values) = refl
 
@@ -66,7 +66,7 @@ any_with : (test : List ℕ → Bool) (name : Option (List ℕ)) (names : List (
 any_with test None names rest e = e
 any_with test (Some name) names rest e = ap (λ more. test name || more) e
 
-any_named : (test : List ℕ → Bool) (values : List Data) → list_any test (filter_map name_of values) ≡ list_any (λ value. there_is test (name_of value)) values
+pub any_named : (test : List ℕ → Bool) (values : List Data) → list_any test (filter_map name_of values) ≡ list_any (λ value. there_is test (name_of value)) values
 any_named test [] = refl
 any_named test (value ∷ values) = any_with test (name_of value) (filter_map name_of values) _ (any_named test values)
 
@@ -88,7 +88,7 @@ is_tree_of pipelines i no_members h = tt
 is_tree_of pipelines i (member reference options rest) h =
     tree_below (option_and_then (place_named pipelines) (referred reference)) i (py_data options) (found_before pipelines i (referred reference) h)
 
-not_lost : (tree found : Bool) → tree ≡ true → (tree && not found) ≡ false → found ≡ true
+pub not_lost : (tree found : Bool) → tree ≡ true → (tree && not found) ≡ false → found ≡ true
 not_lost true true e h = refl
 not_lost true false e h = absurd (true≢false h)
 not_lost false found e h = absurd (true≢false (sym e))
@@ -230,7 +230,7 @@ IsWellFormed-made whole h o e =
       items = distinct-sorted (keys_of (made_inline (items_of (codes "org.osbuild.inline") whole))) (rising_inline (items_of (codes "org.osbuild.inline") whole) (rising_items (codes "org.osbuild.inline") whole o));
     }
 
-no_refusal : (found : Option Refusal) → ((refusal : Refusal) → found ≡ Some refusal → ⊥) → found ≡ None
+pub no_refusal : (found : Option Refusal) → ((refusal : Refusal) → found ≡ Some refusal → ⊥) → found ≡ None
 no_refusal None h = refl
 no_refusal (Some refusal) h = absurd (h refusal refl)
 

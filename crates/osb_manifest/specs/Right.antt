@@ -1,12 +1,14 @@
 -- What holds of the pipelines and the stages of a value in which nothing is wrong.
-use Rattle.std.specs.Prelude.{◌≡◌, ℕ, ◌+◌, false, not, ◌&&◌, ◌||◌, IsTrue, IsSome, List, [], ◌∷◌, codes, length, map}
+use Rattle.std.specs.Prelude.{◌≡◌, ℕ, ◌+◌, Bool, false, not, ◌&&◌, ◌||◌, IsTrue, IsSome, List, [], ◌∷◌, codes, Some, is_some, length, map}
 use Rattle.std.specs.List.{AllByRecursion}
+use Rattle.std.specs.Map.{keys_of}
 use Rattle.serde_json.specs.Data.{Data, Members, no_members, member}
+use Rattle.osb_base.specs.Digests.{digest_of}
 use Rattle.osb_shape.specs.Forms.{is_pipeline_name}
 use Rattle.osb_shape.specs.Values.{there_is, text_at, list_at, members_at, is_single}
 use Rattle.osb_shape.specs.Numbers.{bad_numbers, bad_members}
 use Rattle.osb_shape.specs.References.{references_at, is_tree_input, is_files_input}
-use Rattle.osb_manifest.specs.Walks.{name_of, options_of, stage_kind, is_unknown, faults_of, is_lost, is_build_lost, are_digests}
+use Rattle.osb_manifest.specs.Walks.{name_of, options_of, items_of, stage_kind, is_unknown, faults_of, is_lost, is_build_lost, are_digests}
 use Rattle.osb_manifest.specs.declared.manifests.Manifest.{Manifest}
 
 -- a stage has a type that is known, and takes its options
@@ -52,6 +54,18 @@ AreBuiltBefore whole i (pipeline ∷ pipelines) = IsBuiltBefore whole i pipeline
 abbrev pub stage_counts : List Data → List ℕ
 stage_counts pipelines = map (λ p. length (list_at (codes "stages") p)) pipelines
 
--- a manifest has each pipeline of a value, with each of its stages
-abbrev pub IsKept : Data → Manifest → Type 0
-IsKept whole manifest = map (λ p. length p.1.stages) manifest.pipelines ≡ stage_counts (list_at (codes "pipelines") whole)
+-- which of a value's pipelines have a `build`
+abbrev pub have_builds : List Data → List Bool
+have_builds pipelines = map (λ p. is_some (text_at (codes "build") p)) pipelines
+
+abbrev pub names_of : Members → List (List ℕ)
+names_of no_members = []
+names_of (member name value rest) = name ∷ names_of rest
+
+-- a manifest has each pipeline of a value, with each of its stages, and with a build pipeline where it has a `build`; and
+-- it has each item of the sources, by its digest
+pub record IsKept (whole : Data) (manifest : Manifest) : Type 0 where
+  pub stages : map (λ p. length p.1.stages) manifest.pipelines ≡ stage_counts (list_at (codes "pipelines") whole)
+  pub builds : map (λ p. is_some p.1.build) manifest.pipelines ≡ have_builds (list_at (codes "pipelines") whole)
+  pub inline : map Some (keys_of manifest.items.inline) ≡ map digest_of (names_of (items_of (codes "org.osbuild.inline") whole))
+  pub curl : map Some manifest.items.curl ≡ map digest_of (names_of (items_of (codes "org.osbuild.curl") whole))

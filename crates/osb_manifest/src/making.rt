@@ -9,7 +9,7 @@ ghost use Rattle.osb_shape.specs.Firsts.{first};
 ghost use Rattle.osb_shape.specs.Values.{list_of, list_at};
 ghost use Rattle.osb_shape.specs.Numbers.{bad_numbers};
 ghost use Rattle.osb_manifest.specs.Walks.{is_unknown, faults_of, refusals_of};
-ghost use Rattle.osb_manifest.specs.Right.{IsRightStage, IsRightPipeline, stage_counts, IsKept};
+ghost use Rattle.osb_manifest.specs.Right.{IsRightStage, IsRightPipeline, stage_counts};
 ghost use Rattle.osb_manifest.specs.Named.{named};
 ghost use Rattle.osb_manifest.specs.Manifests.{made_stage, made_build, made_pipeline, made_manifest};
 
@@ -28,7 +28,7 @@ use std::alloc::{AllocError, Global};
 pub fn make_manifest(alloc: Global, value: &Value) -> Result<Manifest, NoMemory>
     requires { first (refusals_of (view value.now)) ≡ None }
     ensures made { IfOk result (λ manifest. manifest ≡ made_manifest (view value.now)) }
-    ensures kept { IfOk result (IsKept (view value.now)) }
+    ensures kept { IfOk result (λ manifest. map (λ p. length p.1.stages) manifest.pipelines ≡ stage_counts (list_at (codes "pipelines") (view value.now))) }
 {
     let values = list_at(value, "pipelines");
     let pipelines = make_pipelines(alloc, values)?;

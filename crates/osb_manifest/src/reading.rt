@@ -21,7 +21,7 @@ pub fn read_manifest(alloc: Global, bytes: &[u8]) -> Result<Manifest, Refusal>
     ensures manifest { result ≢ Err Refusal.NoMemory → result ≡ manifest_of bytes.now }
     ensures well_formed { IfOk result IsWellFormed }
 
-    // Each pipeline is there, with each of its stages.
+    // Each pipeline is there, with its build pipeline and each of its stages, and so is each item.
     ensures kept { IfOk result (λ manifest. (whole : Data) → json_of bytes.now ≡ Some whole → IsKept whole manifest) }
 {
     if bytes.len() > MOST_BYTES {
