@@ -3,7 +3,6 @@ use Rattle.std.specs.Prelude.{◌≡◌, ℕ, ◌≤◌, List, [], ◌∷◌, ma
 use Rattle.std.specs.List.{All}
 use Rattle.std.specs.Map.{keys_of}
 use Rattle.sha2.specs.Sha256.{sha256}
-use Rattle.osb_tree.specs.declared.numbers.Key.{Key}
 use Rattle.osb_tree.specs.declared.numbers.TaskNo.{TaskNo}
 use Rattle.osb_recipe.specs.Tables.{TableData, IsTable}
 use Rattle.osb_recipe.specs.Meanings.{meant}

@@ -1,6 +1,6 @@
 -- How builds are planned: which recipes their stages have, and which tasks their pipelines are. Each step is said twice,
 -- by the table that it leaves and by the keys that it gives.
-use Rattle.std.specs.Prelude.{◌≡◌, ℕ, ◌==◌, Bool, List, [], ◌∷◌, ◌++◌, map, filter, reverse, slice_get, unwrap_or, Option, Some, None, option_map, if◌then◌else◌}
+use Rattle.std.specs.Prelude.{ℕ, ◌+◌, ◌==◌, Bool, false, List, [], ◌∷◌, ◌++◌, map, filter, reverse, slice_get, unwrap_or, Option, Some, None, option_map, if◌then◌else◌}
 use Rattle.std.specs.Option.{option_map_or}
 use Rattle.std.specs.List.{flat_map}
 use Rattle.std.specs.Map.{values_of, lookup}
@@ -121,21 +121,29 @@ task_chains builds = interned_all same_chain [] (flat_map (λ chains. values_of 
 abbrev pub task_numbers : List (List Key) → Chains → List TaskNo
 task_numbers tasks chains = map (λ chain. no_of (place_in same_chain tasks chain)) (values_of chains)
 
--- the keys of a chain whose stages have a mark
-abbrev pub marked_in : List Bool → List Key → List Key
-marked_in [] keys = []
-marked_in (mark ∷ marks) [] = []
-marked_in (mark ∷ marks) (key ∷ keys) = if mark then key ∷ marked_in marks keys else marked_in marks keys
+abbrev pub has_mark : List Bool → ℕ → Bool
+has_mark marks place = unwrap_or (slice_get marks place) false
+
+abbrev pub key_if : Bool → Key → List Key
+key_if kept key = if kept then key ∷ [] else []
+
+-- the keys of a chain whose stages have a mark, where the places of the stages count from a first one
+abbrev pub marked_from : List Bool → ℕ → List Key → List Key
+marked_from marks place [] = []
+marked_from marks place (key ∷ keys) = key_if (has_mark marks place) key ++ marked_from marks (place + 1) keys
 
 -- by the marks of the pipelines' stages
 abbrev pub build_marked : List (List Bool) → Chains → List Key
-build_marked marks chains = flat_map (λ chain. marked_in (unwrap_or (slice_get marks chain.0) []) chain.1) chains
+build_marked marks chains = flat_map (λ chain. marked_from (unwrap_or (slice_get marks chain.0) []) 0 chain.1) chains
 
--- the keys that some build marks
-abbrev pub all_marked : List Build → List Chains → List Key
-all_marked [] chains = []
-all_marked (build ∷ builds) [] = []
-all_marked (build ∷ builds) (chains ∷ more) = build_marked build.marks chains ++ all_marked builds more
+abbrev pub marks_of : Option Build → List (List Bool)
+marks_of None = []
+marks_of (Some build) = build.marks
+
+-- the keys that some build marks, where the numbers of the builds count from a first one
+abbrev pub marked_by : List Build → ℕ → List Chains → List Key
+marked_by builds number [] = []
+marked_by builds number (chains ∷ more) = build_marked (marks_of (slice_get builds number)) chains ++ marked_by builds (number + 1) more
 
 abbrev pub task_of : TableData → List (List Key) → List Key → List Key → Task
 task_of table tasks marked chain = record { chain = chain; marked = filter (has_key marked) (reverse chain); deps = deps_of table tasks chain }
@@ -143,7 +151,7 @@ task_of table tasks marked chain = record { chain = chain; marked = filter (has_
 abbrev pub plan_of : TableData → List Build → List Chains → List (List Key) → Plan
 plan_of table builds chains tasks = record {
   table = table;
-  tasks = map (task_of table tasks (all_marked builds chains)) tasks;
+  tasks = map (task_of table tasks (marked_by builds 0 chains)) tasks;
   builds = map (task_numbers tasks) chains;
 }
 
