@@ -1,8 +1,10 @@
-ghost use Rattle.std.specs.Prelude.{◌≡◌, ◌<◌, ◌≤◌, ◌==◌, IfOk, Some, length, option_map};
+ghost use Rattle.std.specs.Prelude.{◌≡◌, ◌↔◌, ◌-◌, ◌^◌, ◌<◌, ◌≤◌, min, IsTrue, ◌==◌, IfOk, Some, length, option_map};
 ghost use Rattle.std.specs.List.{slice_get};
 ghost use Rattle.osb_tree.specs.Trees.{tree_size};
+ghost use Rattle.osb_tree.specs.Chunks.{IsChunk};
 
 use crate::places::weight;
+use crate::trees::MAX_SIZE;
 use crate::{NoMemory, Node, Path};
 use std::marker::Model;
 
@@ -30,6 +32,13 @@ impl Model for Chunk {
 }
 
 impl Chunk {
+    /// Whether these pairs are few and small enough for a chunk.
+    pub fn can_have(pairs: &[(Path, Node)]) -> bool
+        ensures chunk { IsTrue result ↔ IsChunk pairs.now }
+    {
+        pairs.len() <= CHUNK_PAIRS && total_weight(pairs) <= MAX_SIZE
+    }
+
     /// The pairs may be any, in any order: `Tree::check` says whether chunks are those of a tree.
     pub fn from_pairs(pairs: Vec<(Path, Node)>) -> Result<Self, NoMemory>
         requires few { length pairs.items ≤ 256 }
@@ -84,13 +93,13 @@ impl Chunk {
     }
 }
 
+/// What the pairs add to a size, up to the greatest number.
 fn total_weight(pairs: &[(Path, Node)]) -> u64
-    requires { tree_size pairs.now ≤ 268435456 }
-    ensures { result ≡ tree_size pairs.now }
+    ensures { result ≡ min (tree_size pairs.now) (2 ^ 64 - 1) }
 {
-    let mut total = 0;
+    let mut total: u64 = 0;
     for (path, node) in pairs {
-        total += weight(path, node);
+        total = total.saturating_add(weight(path, node));
     }
     total
 }
