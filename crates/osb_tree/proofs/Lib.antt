@@ -1,6 +1,12 @@
 pub mod AccountLaws
+pub mod ChunkLaws
+pub mod ChunkReadings
+pub mod ChunkWalks
 pub mod Entries
+pub mod Fronts
+pub mod ListingFronts
 pub mod NextPaths
+pub mod PairReadings
 pub mod PathLaws
 pub mod PathOrder
 pub mod Puts

@@ -41,7 +41,7 @@ next_after-from_range listing held rest after e r = rw (← e, r) (next_after-fi
 -- ---- the least above
 
 -- what is found is the first entry's, or is found among the others
-found-cons : (entry : Names × Node) (entries : Listing) (q : Names) → IsSome (node_at (entry ∷ entries) q) → (q ≡ entry.0) ⊎ IsSome (node_at entries q)
+pub found-cons : (entry : Names × Node) (entries : Listing) (q : Names) → IsSome (node_at (entry ∷ entries) q) → (q ≡ entry.0) ⊎ IsSome (node_at entries q)
 found-cons entry entries q found = by (path_cmp q entry.0) refl found
   where
     by : (r : Ordering) → path_cmp q entry.0 ≡ r → IsSome (cond (is_eq r) (Some entry.1) (node_at entries q)) → (q ≡ entry.0) ⊎ IsSome (node_at entries q)
@@ -93,7 +93,7 @@ next_after-is_least_above listing after t = next_after-least listing after t.ord
 
 -- ---- what lies beneath
 
-less_is : (r : Ordering) → is_lt r ≡ true → r ≡ Less
+pub less_is : (r : Ordering) → is_lt r ≡ true → r ≡ Less
 less_is Less e = refl
 less_is Equal e = absurd (true≢false (sym e))
 less_is Greater e = absurd (true≢false (sym e))

@@ -22,10 +22,10 @@ pub node_at-put_at : PutSetsOnePath
 node_at-put_at listing path node q =
     rw (lists_ties name_cmp texts_ties path q) (lookup-insert_entry path_cmp_total listing path node q)
 
-is_same_path-refl : (path : Names) → is_same_path path path ≡ true
+pub is_same_path-refl : (path : Names) → is_same_path path path ≡ true
 is_same_path-refl path = lists_ties name_cmp texts_ties path path ∙ is_at-path_cmp path
 
-is_same_path-exact : (p q : Names) → is_same_path p q ≡ true → p ≡ q
+pub is_same_path-exact : (p q : Names) → is_same_path p q ≡ true → p ≡ q
 is_same_path-exact p q e = tells_apart path_cmp_exact p q (sym (lists_ties name_cmp texts_ties p q) ∙ e)
 
 pub node_at-put_at_same : (listing : Listing) (path : Names) (node : Node) → node_at (put_at listing path node) path ≡ Some node
@@ -43,12 +43,12 @@ tree_size-put_at listing path node t = sum_by-insert_entry path_cmp_total path_c
 
 -- ---- directories
 
-is_directory_at-from : (listing : Listing) (path : Names) (found : Option Node) → node_at listing path ≡ found → is_directory_at listing path ≡ option_map_or is_directory found false
+pub is_directory_at-from : (listing : Listing) (path : Names) (found : Option Node) → node_at listing path ≡ found → is_directory_at listing path ≡ option_map_or is_directory found false
 is_directory_at-from listing path None e = rw e refl
 is_directory_at-from listing path (Some node) e = rw e refl
 
 -- two listings that have the same at a path have a directory there or not alike
-is_directory_at-same : (listing other : Listing) (path : Names) → node_at listing path ≡ node_at other path → is_directory_at listing path ≡ is_directory_at other path
+pub is_directory_at-same : (listing other : Listing) (path : Names) → node_at listing path ≡ node_at other path → is_directory_at listing path ≡ is_directory_at other path
 is_directory_at-same listing other path e = is_directory_at-from listing path (node_at other path) e ∙ sym (is_directory_at-from other path (node_at other path) refl)
 
 -- ---- what a put with no fault knows
@@ -134,7 +134,7 @@ module _ (listing : Listing) (path : Names) (node : Node) (t : IsTree listing) (
       by (x ∷ p) n rooted place =
           is_directory_at-same (put_at listing (x ∷ p) n) listing root (node_at-put_at listing (x ∷ p) n root) ∙ rooted
 
-IsTree-from_PutFits : (listing : Listing) (path : Names) (node : Node) → IsTree listing → IsPath path → InRange node → PutFits listing path node → IsTree (put_at listing path node)
+pub IsTree-from_PutFits : (listing : Listing) (path : Names) (node : Node) → IsTree listing → IsPath path → InRange node → PutFits listing path node → IsTree (put_at listing path node)
 IsTree-from_PutFits listing path node t p n fits =
     record {
       ordered = sorted-insert_entry path_cmp_total listing path node t.ordered;
@@ -158,7 +158,7 @@ IsWithinLimits-put_at listing path node e = IsWithinLimits-from_is_too_large (pu
 
 -- ---- parents
 
-split_last : (name : List ℕ) (names : Names) → name ∷ names ≡ take (length names) (name ∷ names) ++ get_or (name ∷ names) (length names) [] ∷ []
+pub split_last : (name : List ℕ) (names : Names) → name ∷ names ≡ take (length names) (name ∷ names) ++ get_or (name ∷ names) (length names) [] ∷ []
 split_last name names =
     sym (take_all (length names + 1) (name ∷ names) (omega arith)) ∙ take_more (name ∷ names) (length names) [] (omega arith)
 
@@ -169,7 +169,7 @@ parent_is_a_directory listing (name ∷ names) t found =
 
 -- ---- how large it is then
 
-is_too_large-within : (listing : Listing) → length listing ≤ 262144 → tree_size listing ≤ 268435456 → is_too_large listing ≡ false
+pub is_too_large-within : (listing : Listing) → length listing ≤ 262144 → tree_size listing ≤ 268435456 → is_too_large listing ≡ false
 is_too_large-within listing few small = or_from _ _ (le-ltb 262144 (length listing) few) (le-ltb 268435456 (tree_size listing) small)
 
 is_too_large-long : (listing : Listing) → 262144 < length listing → is_too_large listing ≡ true

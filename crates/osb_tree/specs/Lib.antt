@@ -3,3 +3,5 @@ pub mod Nodes
 pub mod Trees
 pub mod Laws
 pub mod Accounts
+pub mod Chunks
+pub mod Readings

@@ -2,6 +2,7 @@
 #![tactic(auto)]
 
 pub mod accounts;
+mod chunks;
 mod faults;
 pub mod laws;
 mod lists;
@@ -10,10 +11,12 @@ mod nodes;
 mod numbers;
 mod paths;
 pub mod places;
+mod readings;
 mod shares;
 mod texts;
 mod trees;
 
+pub use chunks::{CHUNK_PAIRS, Chunk};
 pub use faults::{Inputs, OptionFault, PathFault, PutFault, StageFault};
 pub use lists::List;
 pub use names::Name;

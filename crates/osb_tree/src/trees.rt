@@ -1,12 +1,19 @@
 ghost use Rattle.std.specs.Prelude.{◌≡◌, ◌≢◌, ◌↔◌, ℕ, ◌+◌, ◌≤◌, List, IfOk, IfErr, OnOk, OnErr, MatchOption, IsTrue, IsFalse, is_some, length, option_copied, if◌then◌else◌};
+ghost use Rattle.std.specs.Prelude.{◌<◌, ◌++◌, take, drop};
+ghost use Rattle.std.specs.List.Sorted.{IsStrictlySortedBy};
+ghost use Rattle.std.specs.Map.{keys_of};
+ghost use Rattle.osb_tree.specs.Paths.{path_cmp};
 ghost use Rattle.osb_tree.specs.Nodes.{InRange};
 ghost use Rattle.osb_tree.specs.Trees.{empty_tree, tree_size, node_at, next_after, put_at, put_fault, parent_fault, takes_over, has_beneath, is_too_large, IsTree, IsWithinLimits};
 ghost use Rattle.osb_tree.specs.Laws.{share_at};
+ghost use Rattle.osb_tree.specs.Chunks.{chunk_at, chunk_count, chunks_of, pairs_of, AreOfATree, IsMisfit};
 
 use crate::places::{is_beneath, is_directory, weight};
-use crate::{NoMemory, Node, Path, PutFault};
+use crate::readings::misfit;
+use crate::{CHUNK_PAIRS, Chunk, NoMemory, Node, Path, PutFault, Shared};
 use std::alloc::Global;
 use std::collections::BTreeMap;
+use std::collections::btree_map::Iter;
 use std::marker::Model;
 use std::ops::Bound;
 
@@ -169,4 +176,97 @@ impl Tree {
         let (next, _) = self.nodes.range(greater).next()?;
         Some(next)
     }
+
+    /// How many chunks its listing has.
+    pub fn chunks(&self) -> usize
+        ensures count { result ≡ chunk_count self.now }
+    {
+        self.nodes.len().div_ceil(CHUNK_PAIRS)
+    }
+
+    /// One of its chunks, by number. This goes over all pairs that stand before it: `all_chunks` gives them all for
+    /// the price of one such walk.
+    pub fn chunk(&self, alloc: Global, i: usize) -> Result<Chunk, NoMemory>
+        requires { i < chunk_count self.now }
+        ensures chunk { IfOk result (λ chunk. chunk ≡ chunk_at self.now i) }
+    {
+        let mut rest = self.nodes.iter();
+        for _ in 0..CHUNK_PAIRS * i {
+            let _ = rest.next();
+        }
+        next_chunk(alloc, &mut rest)
+    }
+
+    /// All chunks in order, in one walk over the tree.
+    pub fn all_chunks(&self, alloc: Global) -> Result<Vec<Shared<Chunk>>, NoMemory>
+        ensures chunks { IfOk result (λ chunks. chunks.items ≡ chunks_of self.now) }
+    {
+        let mut rest = self.nodes.iter();
+        let mut chunks = Vec::new(alloc);
+        for _ in 0..self.chunks() {
+            let chunk = next_chunk(alloc, &mut rest)?;
+            chunks.push(Shared::new(alloc, chunk)?)?;
+        }
+        Ok(chunks)
+    }
+
+    /// Whether chunks are those of a tree: nothing where they are. Else the place of the first pair that is wrong,
+    /// counted over all pairs from 0; or how many pairs there are, where only the cut is wrong or there is no pair.
+    /// This is one walk over the pairs.
+    pub fn check(chunks: &[Shared<Chunk>]) -> Option<usize>
+        ensures misfit { MatchOption result (AreOfATree chunks.now) (IsMisfit chunks.now) }
+    {
+        misfit(chunks)
+    }
+
+    /// The tree that chunks list.
+    pub fn from_chunks(alloc: Global, chunks: &[Shared<Chunk>]) -> Result<Self, NoMemory>
+        requires { AreOfATree chunks.now }
+        ensures tree { IfOk result (λ tree. tree ≡ pairs_of chunks.now) }
+    {
+        let mut nodes = BTreeMap::new(alloc);
+        let mut size = 0;
+        for chunk in chunks {
+            add_pairs(&mut nodes, chunk.get().pairs())?;
+            size += chunk.get().weight();
+        }
+        Ok(Tree { nodes, size })
+    }
+
+    /// The same tree once more.
+    pub fn clone_tree(&self) -> Result<Self, NoMemory>
+        ensures tree { IfOk result (λ tree. tree ≡ self.now) }
+    {
+        Ok(Tree {
+            nodes: self.nodes.clone()?,
+            size: self.size,
+        })
+    }
+}
+
+/// The next pairs of a walk, as a chunk.
+fn next_chunk(alloc: Global, rest: &mut Iter<'_, Path, Node>) -> Result<Chunk, NoMemory>
+    requires { tree_size rest.old ≤ 268435456 }
+    ensures chunk { IfOk result (λ chunk. chunk ≡ take 256 rest.old) }
+    ensures rest { OnOk result (rest.new ≡ drop 256 rest.old) }
+{
+    let mut pairs = Vec::new(alloc);
+    while pairs.len() < CHUNK_PAIRS {
+        let Some((path, node)) = rest.next() else {
+            break;
+        };
+        pairs.push((path.clone()?, node.clone()?))?;
+    }
+    Chunk::from_pairs(pairs)
+}
+
+/// Puts pairs behind all that a map holds.
+fn add_pairs(nodes: &mut BTreeMap<Path, Node>, pairs: &[(Path, Node)]) -> Result<(), NoMemory>
+    requires { IsStrictlySortedBy path_cmp (keys_of (nodes.old.entries ++ pairs.now)) }
+    ensures { OnOk result (nodes.new.entries ≡ nodes.old.entries ++ pairs.now) }
+{
+    for (path, node) in pairs {
+        nodes.insert(path.clone()?, node.clone()?)?;
+    }
+    Ok(())
 }
