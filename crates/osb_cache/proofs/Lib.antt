@@ -1,0 +1,11 @@
+pub mod Evicts
+pub mod Finds
+pub mod Firsts
+pub mod Kept
+pub mod Lists
+pub mod Lookups
+pub mod Openings
+pub mod Replies
+pub mod Rises
+pub mod Stays
+pub mod Sums

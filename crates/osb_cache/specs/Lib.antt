@@ -1,0 +1,4 @@
+pub mod Caches
+pub mod Edits
+pub mod Laws
+pub mod Parts
