@@ -1,0 +1,8 @@
+pub mod Lists
+pub mod Moves
+pub mod Steps
+pub mod Seats
+pub mod Parts
+pub mod Calls
+pub mod Rows
+pub mod Closing
