@@ -1,0 +1,4 @@
+pub mod StageWorks
+pub mod ChainStages
+pub mod Agreeing
+pub mod Turns
