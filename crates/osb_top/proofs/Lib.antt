@@ -1,8 +1,8 @@
 pub mod Builds
 pub mod Due
-pub mod Items
 pub mod ManyExports
-pub mod Running
+pub mod Pairing
+pub mod ReadyBuilds
 pub mod Trees
 pub mod ExportNames
 pub mod Writing

@@ -7,7 +7,8 @@ use Rattle.std.specs.Map.{keys_of, lookup}
 use Rattle.std.specs.Cmp.Lexicographic.{pointwise}
 use Rattle.osb_tree.specs.Trees.{Listing}
 use Rattle.osb_recipe.specs.declared.outcomes.Outcome.{Outcome}
-use Rattle.osb_manifest.specs.Solo.{Built, tree_of}
+use Rattle.osb_recipe.specs.Works.{tree_of}
+use Rattle.osb_manifest.specs.Solo.{Built}
 use Rattle.osb_manifest.specs.declared.manifests.Manifest.{Manifest}
 use Rattle.osb_top.specs.Answers.{ok_map, name_at, failure_of, first_failure, with_name, named_trees, with_export, exports_of}
 use Rattle.osb_top.specs.declared.answers.Export.{Export}

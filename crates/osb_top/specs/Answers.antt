@@ -16,7 +16,9 @@ use Rattle.osb_sources.specs.declared.answers.SourceAnswer.TheVariants as answer
 use Rattle.osb_manifest.specs.Manifests.{manifest_of}
 use Rattle.osb_manifest.specs.Needed.{needed}
 use Rattle.osb_manifest.specs.Wanted.{wanted}
-use Rattle.osb_manifest.specs.Solo.{Built, tree_of, both, solo}
+use Rattle.osb_recipe.specs.Pairs.{both}
+use Rattle.osb_recipe.specs.Works.{tree_of}
+use Rattle.osb_manifest.specs.Solo.{Built, solo}
 use Rattle.osb_manifest.specs.declared.manifests.Manifest.{Manifest}
 use Rattle.osb_manifest.specs.declared.manifests.Refusal.{Refusal}
 use Rattle.osb_manifest.specs.declared.exports.NoSuchExport.{NoSuchExport as Lacks}

@@ -5,15 +5,21 @@ ghost use Rattle.osb_base.specs.Fetchers.{FetcherState};
 ghost use Rattle.osb_sources.specs.Rounds.{IsThinned, SomeRose};
 ghost use Rattle.osb_sources.specs.declared.answers.SourceAnswer.{SourceAnswer};
 ghost use Rattle.osb_manifest.specs.Needed.{needed};
-ghost use Rattle.osb_manifest.specs.Solo.{tree_of};
+ghost use Rattle.osb_recipe.specs.Works.{tree_of};
+ghost use Rattle.osb_sources.specs.Rounds.{AreItems};
+ghost use Rattle.osb_manifest.specs.Manifests.{IsWellFormed};
+ghost use Rattle.osb_manifest.specs.Needed.{needed_places};
+ghost use Rattle.osb_manifest.specs.Wanted.{wanted};
+ghost use Rattle.osb_manifest.specs.Solo.{solo};
+ghost use Rattle.osb_plan.specs.Bridge.{IsReady};
 ghost use Rattle.osb_manifest.specs.declared.manifests.Manifest.{Manifest};
-ghost use Rattle.osb_top.specs.Answers.{asked_of, failure_of, first_failure, with_name, named_trees, exports_of, gathered_due, needed_due, IsDue};
+ghost use Rattle.osb_top.specs.Answers.{asked_of, failure_of, first_failure, with_name, named_trees, exports_of, built_due, gathered_due, needed_due, IsDue};
 ghost use Rattle.osb_top.specs.Steps.{IsAnswered};
 
-use crate::blobs::Blobs;
-use crate::solo::solo;
-use osb_base::{Bytes, Fetcher, List, NoMemory, Text, find_named};
+use crate::alone::{built_alone, items_by_digest};
+use osb_base::{Bytes, Digest, Fetcher, List, NoMemory, Text, find_named};
 use osb_manifest::{Manifest, NoSuchExport, Pipelines, Refusal, needed, read_manifest, wanted};
+use osb_plan::Build;
 use osb_recipe::Outcome;
 use osb_sources::{SourceAnswer, gather};
 use osb_tree::{Shared, StageFault, Tree};
@@ -103,7 +109,7 @@ pub fn exports_due(
         return Err(Unbuilt::Absent);
     };
     match read_manifest(alloc, bytes.as_slice()) {
-        Ok(manifest) => manifest_exports(alloc, &manifest, names, fetchers),
+        Ok(manifest) => manifest_exports(alloc, manifest, names, fetchers),
         Err(refusal) => Err(refused(refusal)),
     }
 }
@@ -120,16 +126,17 @@ fn refused(refusal: Refusal) -> Unbuilt
 
 fn manifest_exports(
     alloc: Global,
-    manifest: &Manifest,
+    manifest: Manifest,
     names: &[Text],
     fetchers: &mut Vec<Box<dyn Fetcher>>,
 ) -> Result<List<Export>, Unbuilt>
-    ensures due { IsAnswered (asked_of manifest.now (needed manifest.now names.now)) (needed_due names.now manifest.now (needed manifest.now names.now)) (map (λ b. fetcher_state b) fetchers.old.items) (map (λ b. fetcher_state b) fetchers.new.items) result }
+    requires formed { IsWellFormed manifest }
+    ensures due { IsAnswered (asked_of manifest (needed manifest names.now)) (needed_due names.now manifest (needed manifest names.now)) (map (λ b. fetcher_state b) fetchers.old.items) (map (λ b. fetcher_state b) fetchers.new.items) result }
     ensures left { IsThinned (map (λ b. fetcher_state b) fetchers.old.items) (map (λ b. fetcher_state b) fetchers.new.items) }
     ensures cause { (digest : List ℕ) → result ≡ Err (Unbuilt.Source (SourceAnswer.Fault digest)) → SomeRose (map (λ b. fetcher_state b) fetchers.old.items) (map (λ b. fetcher_state b) fetchers.new.items) }
 {
-    match needed(alloc, manifest, names) {
-        Ok(places) => needed_exports(alloc, manifest, places.as_slice(), names, fetchers),
+    match needed(alloc, &manifest, names) {
+        Ok(places) => needed_exports(alloc, manifest, places, names, fetchers),
         Err(lacks) => Err(lacking(lacks)),
     }
 }
@@ -147,20 +154,22 @@ fn lacking(lacks: NoSuchExport) -> Unbuilt
 /// Gathers what the pipelines at these places use, and builds them.
 fn needed_exports(
     alloc: Global,
-    manifest: &Manifest,
-    places: &[usize],
+    manifest: Manifest,
+    places: List<usize>,
     names: &[Text],
     fetchers: &mut Vec<Box<dyn Fetcher>>,
 ) -> Result<List<Export>, Unbuilt>
-    ensures due { IsAnswered (asked_of manifest.now (Ok places.now)) (gathered_due names.now manifest.now places.now) (map (λ b. fetcher_state b) fetchers.old.items) (map (λ b. fetcher_state b) fetchers.new.items) result }
+    requires formed { IsWellFormed manifest }
+    requires needed { places ≡ needed_places manifest names.now }
+    ensures due { IsAnswered (asked_of manifest (Ok places)) (gathered_due names.now manifest places) (map (λ b. fetcher_state b) fetchers.old.items) (map (λ b. fetcher_state b) fetchers.new.items) result }
     ensures left { IsThinned (map (λ b. fetcher_state b) fetchers.old.items) (map (λ b. fetcher_state b) fetchers.new.items) }
     ensures cause { (digest : List ℕ) → result ≡ Err (Unbuilt.Source (SourceAnswer.Fault digest)) → SomeRose (map (λ b. fetcher_state b) fetchers.old.items) (map (λ b. fetcher_state b) fetchers.new.items) }
 {
-    let Ok(digests) = wanted(alloc, manifest, places) else {
+    let Ok(digests) = wanted(alloc, &manifest, places.as_slice()) else {
         return Err(Unbuilt::NoMemory);
     };
     match gather(alloc, &manifest.items, digests.as_slice(), fetchers) {
-        Ok(blobs) => exports_of_gathered(alloc, manifest, places, names, blobs.as_slice()),
+        Ok(items) => exports_of_gathered(alloc, manifest, places, names, digests, items),
         Err(answer) => Err(source_unbuilt(answer)),
     }
 }
@@ -174,21 +183,38 @@ fn source_unbuilt(answer: SourceAnswer) -> Unbuilt
     }
 }
 
-/// The exports of these names, where the pipelines at these places are built with the items that were gathered for
-/// them.
+/// The exports of these names, where the pipelines that they need are built with the items that were gathered for them,
+/// each under its digest.
 pub fn exports_of_gathered(
     alloc: Global,
-    manifest: &Manifest,
-    places: &[usize],
+    manifest: Manifest,
+    places: List<usize>,
     names: &[Text],
-    gathered: &[Bytes],
+    digests: List<Digest>,
+    gathered: List<Bytes>,
 ) -> Result<List<Export>, Unbuilt>
-    ensures due { result ≢ Err Unbuilt.NoMemory → result ≡ gathered_due names.now manifest.now places.now (Ok gathered.now) }
+    requires formed { IsWellFormed manifest }
+    requires needed { places ≡ needed_places manifest names.now }
+    requires wanted { digests ≡ wanted manifest places }
+    requires items { AreItems digests gathered }
+    ensures due { result ≢ Err Unbuilt.NoMemory → result ≡ gathered_due names.now manifest places (Ok gathered) }
 {
-    let digests = wanted(alloc, manifest, places)?;
-    let blobs = Blobs::new(alloc, digests.as_slice(), gathered)?;
-    let built = solo(alloc, manifest, places, &blobs)?;
-    match named_trees(alloc, manifest, built) {
+    let build = Build {
+        manifest,
+        needed: places,
+        marks: List::new(Vec::new(alloc)),
+        blobs: items_by_digest(alloc, digests.into_vec(), gathered.into_vec())?,
+    };
+    exports_of_build(alloc, build, names)
+}
+
+fn exports_of_build(alloc: Global, build: Build, names: &[Text]) -> Result<List<Export>, Unbuilt>
+    requires ready { IsReady build }
+    ensures due { result ≢ Err Unbuilt.NoMemory → result ≡ built_due names.now build.manifest (solo build.manifest build.needed build.blobs) }
+{
+    let builds = [build];
+    let built = built_alone(alloc, &builds)?;
+    match named_trees(alloc, &builds[0].manifest, built) {
         Ok(trees) => exports_of(alloc, &trees, names),
         Err(unbuilt) => Err(unbuilt),
     }
