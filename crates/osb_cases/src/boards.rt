@@ -75,7 +75,7 @@ impl Replies {
 }
 
 /// The line with this word, which has a block alone.
-fn block_entry<'a>(case: &'a Case, word: &str) -> Result<&'a Entry, CaseFault> {
+pub fn block_entry<'a>(case: &'a Case, word: &str) -> Result<&'a Entry, CaseFault> {
     let entry = case.needed(word)?;
     if entry.value.is_empty() {
         Ok(entry)
@@ -141,7 +141,7 @@ fn task_of(word: &str, line: usize) -> Result<TaskNo, CaseFault> {
     }
 }
 
-fn worker_of(word: &str, line: usize) -> Result<WorkerNo, CaseFault> {
+pub fn worker_of(word: &str, line: usize) -> Result<WorkerNo, CaseFault> {
     match word.parse::<u32>() {
         Ok(number) if number <= LAST_WORKER => Ok(WorkerNo(number)),
         _ => Err(Mistake::NoWorker.at(line)),

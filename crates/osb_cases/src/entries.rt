@@ -113,6 +113,7 @@ fn takes_block(word: &str) -> bool {
             | "text"
             | "value"
             | "puts"
+            | "changes"
             | "input"
             | "tasks"
             | "script"
@@ -138,7 +139,9 @@ fn entry_of(alloc: Global, line: usize, content: &str) -> Result<Entry, NoMemory
 
 fn name_and_rest<'a>(word: &str, rest: &'a str) -> (&'a str, &'a str) {
     match word {
-        "file" | "mirror" | "fail" | "part" | "input" | "content" | "due" => first_word(rest),
+        "file" | "mirror" | "fail" | "part" | "input" | "content" | "build" | "due" => {
+            first_word(rest)
+        }
         _ => ("", rest),
     }
 }

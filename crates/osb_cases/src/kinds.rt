@@ -10,6 +10,9 @@ pub enum Kind {
     Puts,
     Stage,
     Board,
+    Chunks,
+    Cache,
+    Plan,
 }
 
 impl Kind {
@@ -25,6 +28,9 @@ impl Kind {
             "puts" => Some(Kind::Puts),
             "stage" => Some(Kind::Stage),
             "board" => Some(Kind::Board),
+            "chunks" => Some(Kind::Chunks),
+            "cache" => Some(Kind::Cache),
+            "plan" => Some(Kind::Plan),
             _ => None,
         }
     }
@@ -48,6 +54,9 @@ impl Kind {
             Kind::Puts => matches!(word, "puts" | "random"),
             Kind::Stage => { matches!(word, "puts" | "content" | "input" | "type" | "options") }
             Kind::Board => matches!(word, "tasks" | "script"),
+            Kind::Chunks => matches!(word, "puts" | "random" | "changes"),
+            Kind::Cache => matches!(word, "limit" | "script"),
+            Kind::Plan => matches!(word, "words" | "word" | "file" | "build"),
         }
     }
 }

@@ -2,7 +2,9 @@
 #![tactic(auto)]
 
 mod boards;
+mod caches;
 mod cases;
+mod chunks;
 mod differences;
 mod entries;
 mod kinds;
@@ -13,6 +15,7 @@ mod nodes;
 mod outcomes;
 mod parts;
 mod plain;
+mod plans;
 mod puts;
 mod random;
 mod runs;

@@ -32,7 +32,7 @@ fn manifest(alloc: Global, case: &Case, entry: &Entry) -> Result<Manifest, CaseF
 }
 
 /// The words, of which `*` names every pipeline.
-fn checkpoints(alloc: Global, case: &Case) -> Result<Vec<Checkpoint>, NoMemory> {
+pub fn checkpoints(alloc: Global, case: &Case) -> Result<Vec<Checkpoint>, NoMemory> {
     let mut checkpoints = Vec::new(alloc);
     for word in words(alloc, case)? {
         let checkpoint = match word.as_str() {

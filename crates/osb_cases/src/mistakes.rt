@@ -48,6 +48,8 @@ pub enum Mistake {
     NotAnObject,
     #[error("the value is no manifest")]
     NoManifest,
+    #[error("the file is no manifest with these exports and the items that they need")]
+    NoBuild,
     #[error("this is no object whose calls can fail")]
     UnknownObject,
     #[error("a mirror has no name, or that of another object")]
@@ -58,6 +60,10 @@ pub enum Mistake {
     NotADigest,
     #[error("a line of the text is no put")]
     NotAPut,
+    #[error("a line of the changes is no change, or has no place among the pairs")]
+    NotAChange,
+    #[error("a chunk would have more than 256 pairs, or more than the size of a tree")]
+    NotAChunk,
     #[error("the text is no path")]
     NotAPath,
     #[error("the node's mode, owners or target are not in their ranges")]
@@ -70,7 +76,9 @@ pub enum Mistake {
     NoWorker,
     #[error("a line of the script is no action")]
     NotAnAction,
-    #[error("the board does not allow this action now")]
+    #[error("the limit is above 2^62")]
+    NoLimit,
+    #[error("the script does not allow this action now")]
     NotAllowed,
 }
 

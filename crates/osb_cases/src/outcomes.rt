@@ -4,9 +4,10 @@ use crate::kinds::Kind;
 use crate::marks::marks_answer;
 use crate::mistakes::{CaseFault, Mistake};
 use crate::parts::text_of;
-use crate::{boards, puts, runs, stages};
+use crate::{boards, caches, chunks, plans, puts, runs, stages};
 use osb_base::NoMemory;
 use osb_pyjson::{PyFault, py_string, py_text};
+use osb_recipe::Plan;
 use osb_tree::{Path, PathFault, Text};
 use serde_json::Value;
 use std::alloc::{AllocError, Global};
@@ -19,6 +20,9 @@ pub enum Outcome {
     Puts(puts::AfterPuts),
     Stage(stages::StageRun),
     Board(boards::Replies),
+    Chunks(chunks::Chunked),
+    Cache(caches::Replies),
+    Plan(Plan),
 }
 
 /// Makes the call of a case.
@@ -32,6 +36,9 @@ pub fn make_call(alloc: Global, case: &Case) -> Result<Outcome, CaseFault> {
         Kind::Puts => Ok(Outcome::Puts(puts::make_puts(alloc, case)?)),
         Kind::Stage => Ok(Outcome::Stage(stages::run_stage(alloc, case)?)),
         Kind::Board => Ok(Outcome::Board(boards::run_script(alloc, case)?)),
+        Kind::Chunks => Ok(Outcome::Chunks(chunks::make_chunks(alloc, case)?)),
+        Kind::Cache => Ok(Outcome::Cache(caches::run_script(alloc, case)?)),
+        Kind::Plan => Ok(Outcome::Plan(plans::make_plan(alloc, case)?)),
     }
 }
 
@@ -44,6 +51,9 @@ impl Outcome {
             Outcome::Puts(puts) => puts.section(alloc, case, due)?.map(String::into_bytes),
             Outcome::Stage(stage) => stage.section(alloc, due)?,
             Outcome::Board(replies) => replies.section(alloc, due)?,
+            Outcome::Chunks(chunks) => chunks.section(alloc, due)?.map(String::into_bytes),
+            Outcome::Cache(replies) => replies.section(alloc, due)?,
+            Outcome::Plan(plan) => plans::section(alloc, plan, due)?.map(String::into_bytes),
         };
         match came {
             Some(bytes) => Ok(bytes),

@@ -172,7 +172,7 @@ fn add_listed(
 }
 
 /// The put that a line stands for.
-fn listed_put(alloc: Global, content: &str, line: usize) -> Result<Put, CaseFault> {
+pub fn listed_put(alloc: Global, content: &str, line: usize) -> Result<Put, CaseFault> {
     let words: Vec<&str> = content.split(' ').collect(alloc)?;
     let (path, node) = match words.as_slice() {
         ["dir", path] => (path, directory("0755", "0", "0", line)?),
