@@ -9,13 +9,13 @@ and PROGRAM is run there with the names of these files.
 import json
 import random
 import re
-import subprocess
 import sys
 import tempfile
 from collections import Counter
 from pathlib import Path
 
 from account_rules import FIELDS, LAST_NUMBER, Node, run
+from compared import all_agree
 
 CASES_OF_A_FILE = 250
 NAMES = ["amy", "bob", "cid", "Amy", "_g", "9", "d.e-f", "games"]
@@ -192,12 +192,7 @@ def main():
                 lines += lines_of_case(number, stage, options, before, answer, after)
             files.append(f"accounts-{first}.cases")
             Path(folder, files[-1]).write_text("\n".join(lines) + "\n", encoding="utf-8")
-        found = subprocess.run([program, *files], cwd=folder, capture_output=True)
-    print(found.stdout.decode(errors="replace"), end="")
-    print(found.stderr.decode(errors="replace"), end="")
-    print(", ".join(f"{number} {kind}" for kind, number in sorted(kinds.items())))
-    ended = re.search(rb"^([0-9]+) cases, 0 differ$", found.stderr, re.MULTILINE)
-    return 0 if found.returncode == 0 and ended and int(ended[1]) == count else 1
+        return 0 if all_agree(program, folder, files, kinds, count) else 1
 
 
 if __name__ == "__main__":

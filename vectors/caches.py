@@ -10,12 +10,13 @@ names of these files. With `cases` the scripts are printed as one case file.
 
 import random
 import re
-import subprocess
 import sys
 import tempfile
 from collections import Counter
 from dataclasses import dataclass, field
 from pathlib import Path
+
+from compared import all_agree
 
 CASES_OF_A_FILE = 250
 WORKERS = [0, 1]
@@ -250,12 +251,7 @@ def compare(program, count, first):
             lines = case_file(start, min(CASES_OF_A_FILE, first + count - start), kinds)
             files.append(f"caches-{start}.cases")
             Path(folder, files[-1]).write_text("\n".join(lines) + "\n", encoding="utf-8")
-        found = subprocess.run([program, *files], cwd=folder, capture_output=True)
-    print(found.stdout.decode(errors="replace"), end="")
-    print(found.stderr.decode(errors="replace"), end="")
-    print(", ".join(f"{number} {kind}" for kind, number in sorted(kinds.items())))
-    ended = re.search(rb"^([0-9]+) cases, 0 differ$", found.stderr, re.MULTILINE)
-    return found.returncode == 0 and ended and int(ended[1]) == count
+        return all_agree(program, folder, files, kinds, count)
 
 
 def main():
