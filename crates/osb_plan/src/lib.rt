@@ -8,5 +8,5 @@ mod plans;
 mod stages;
 mod tasks;
 
-pub use builds::Build;
+pub use builds::{Build, ReadyBuild};
 pub use plans::plan;

@@ -11,7 +11,6 @@ ghost use Rattle.osb_manifest.specs.Manifests.{IsWellFormed};
 ghost use Rattle.osb_manifest.specs.Needed.{needed_places};
 ghost use Rattle.osb_manifest.specs.Wanted.{wanted};
 ghost use Rattle.osb_manifest.specs.Solo.{solo};
-ghost use Rattle.osb_plan.specs.Bridge.{IsReady};
 ghost use Rattle.osb_manifest.specs.declared.manifests.Manifest.{Manifest};
 ghost use Rattle.osb_top.specs.Answers.{asked_of, failure_of, first_failure, with_name, named_trees, exports_of, built_due, gathered_due, needed_due, IsDue};
 ghost use Rattle.osb_top.specs.Steps.{IsAnswered};
@@ -19,7 +18,7 @@ ghost use Rattle.osb_top.specs.Steps.{IsAnswered};
 use crate::alone::{built_alone, items_by_digest};
 use osb_base::{Bytes, Digest, Fetcher, List, NoMemory, Text, find_named};
 use osb_manifest::{Manifest, NoSuchExport, Pipelines, Refusal, needed, read_manifest, wanted};
-use osb_plan::Build;
+use osb_plan::{Build, ReadyBuild};
 use osb_recipe::Outcome;
 use osb_sources::{SourceAnswer, gather};
 use osb_tree::{Shared, StageFault, Tree};
@@ -185,7 +184,7 @@ fn source_unbuilt(answer: SourceAnswer) -> Unbuilt
 
 /// The exports of these names, where the pipelines that they need are built with the items that were gathered for them,
 /// each under its digest.
-pub fn exports_of_gathered(
+fn exports_of_gathered(
     alloc: Global,
     manifest: Manifest,
     places: List<usize>,
@@ -199,20 +198,25 @@ pub fn exports_of_gathered(
     requires items { AreItems digests gathered }
     ensures due { result ≢ Err Unbuilt.NoMemory → result ≡ gathered_due names.now manifest places (Ok gathered) }
 {
-    let build = Build {
+    let build = ReadyBuild::new(Build {
         manifest,
         needed: places,
         marks: List::new(Vec::new(alloc)),
         blobs: items_by_digest(alloc, digests.into_vec(), gathered.into_vec())?,
-    };
+    });
     exports_of_build(alloc, build, names)
 }
 
-fn exports_of_build(alloc: Global, build: Build, names: &[Text]) -> Result<List<Export>, Unbuilt>
-    requires ready { IsReady build }
+/// The exports of these names that are due for a build: for its manifest, the places of its pipelines, and the items
+/// that were gathered for them.
+pub fn exports_of_build(
+    alloc: Global,
+    build: ReadyBuild,
+    names: &[Text],
+) -> Result<List<Export>, Unbuilt>
     ensures due { result ≢ Err Unbuilt.NoMemory → result ≡ built_due names.now build.manifest (solo build.manifest build.needed build.blobs) }
 {
-    let builds = [build];
+    let builds = [build.into_build()];
     let built = built_alone(alloc, &builds)?;
     match named_trees(alloc, &builds[0].manifest, built) {
         Ok(trees) => exports_of(alloc, &trees, names),
