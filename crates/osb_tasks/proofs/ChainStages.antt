@@ -58,6 +58,14 @@ work_there found blobs recipes key = by (slice_get recipes key.0)
         is_some-both (λ build inputs. let work : Work = record { kind = recipe.kind; build = build; inputs = inputs } in work) (build_at found recipe.build) (inputs_at found blobs recipe.inputs)
         ∙ ap₂ (λ a b. a && b) (build_there found recipe.build) (inputs_there found blobs recipe.inputs)
 
+pub work_blocked : (found : Found) (blobs : List (List ℕ)) (recipe : Origin) → can_run found recipe ≡ false → work_of found blobs recipe ≡ None
+work_blocked found blobs recipe e = by (work_of found blobs recipe) (is_some-both (λ build inputs. let work : Work = record { kind = recipe.kind; build = build; inputs = inputs } in work) (build_at found recipe.build) (inputs_at found blobs recipe.inputs)
+    ∙ ap₂ (λ a b. a && b) (build_there found recipe.build) (inputs_there found blobs recipe.inputs) ∙ e)
+  where
+    by : (there : Option Work) → is_some there ≡ false → there ≡ None
+    by None h = refl
+    by (Some work) h = absurd (true≢false h)
+
 works_there : (found : Found) (blobs : List (List ℕ)) (recipes : List Origin) (keys : List Key) → is_some (works_found found blobs recipes keys) ≡ keys_can_run found recipes keys
 works_there found blobs recipes [] = refl
 works_there found blobs recipes (key ∷ keys) =

@@ -10,6 +10,7 @@ use Rattle.osb_recipe.specs.Works.{Given, Work, input_trees, tool_fault, staged,
 use Rattle.osb_recipe.specs.Recipes.{Origin}
 use Rattle.osb_recipe.specs.Meanings.{Found, build_at, inputs_at, work_of}
 use Rattle.osb_recipe.specs.declared.kinds.StageKind.{StageKind}
+use Rattle.osb_tasks.specs.Stages.{one_if_ok, steps_of}
 
 abbrev work_with : StageKind → Option Listing → List (List ℕ × Given) → Work
 work_with kind build inputs = record { kind = kind; build = build; inputs = inputs }
@@ -45,3 +46,17 @@ pub stops_with : (found : Found) (blobs : List (List ℕ)) (recipe : Origin) (tr
     → option_map (λ work. does work base) (work_of found blobs recipe) ≡ Some (Err stopped)
 stops_with found blobs recipe tree fault stopped base is are made =
     done_with recipe.kind (build_at found recipe.build) (inputs_at found blobs recipe.inputs) tree (Err fault) base (Err stopped) is are (λ given made_so. unmade_with recipe.kind tree given fault base made_so ∙ ap Err (sym made))
+
+-- ---- whether the stage is run
+
+counted : (kind : StageKind) (build : Option (Option Listing)) (inputs : Option (List (List ℕ × Given))) (tree : Option Listing) (made : Result (List (List ℕ × Listing)) StageFault) → build ≡ Some tree → option_map input_trees inputs ≡ Some made
+    → steps_of (both (work_with kind) build inputs) ≡ one_if_ok made
+counted kind build None tree made is are = absurd (cc)
+counted kind None (Some given) tree made is are = absurd (cc)
+counted kind (Some one) (Some given) tree made is are =
+    let trees : input_trees given ≡ made = cc in
+    ap one_if_ok trees
+
+pub steps_with : (found : Found) (blobs : List (List ℕ)) (recipe : Origin) (tree : Option Listing) (made : Result (List (List ℕ × Listing)) StageFault)
+    → build_at found recipe.build ≡ Some tree → option_map input_trees (inputs_at found blobs recipe.inputs) ≡ Some made → steps_of (work_of found blobs recipe) ≡ one_if_ok made
+steps_with found blobs recipe tree made is are = counted recipe.kind (build_at found recipe.build) (inputs_at found blobs recipe.inputs) tree made is are

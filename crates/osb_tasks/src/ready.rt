@@ -28,7 +28,7 @@ fn key_can_run(found: &[Option<Shared<Tree>>], recipes: &[Recipe], key: Key) -> 
     }
 }
 
-fn can_run(found: &[Option<Shared<Tree>>], recipe: &Recipe) -> bool
+pub(crate) fn can_run(found: &[Option<Shared<Tree>>], recipe: &Recipe) -> bool
     ensures { result ≡ can_run found.now recipe.now }
 {
     has_build(found, recipe.build) && has_inputs(found, recipe.inputs.as_slice())

@@ -38,7 +38,7 @@ pub fn run_tasks<L: Ledger>(
 }
 
 /// No tree yet, for each key of so many.
-fn nothing_found(alloc: Global, keys: usize) -> Result<Vec<Option<Shared<Tree>>>, NoMemory>
+pub fn nothing_found(alloc: Global, keys: usize) -> Result<Vec<Option<Shared<Tree>>>, NoMemory>
     ensures { IfOk result (λ found. found.items ≡ replicate keys None) }
 {
     let mut found = Vec::new(alloc);
@@ -49,7 +49,7 @@ fn nothing_found(alloc: Global, keys: usize) -> Result<Vec<Option<Shared<Tree>>>
 }
 
 /// Keeps the tree of an outcome, if it has one, under the key that its chain ends with.
-fn keep_tree(
+pub fn keep_tree(
     found: &mut Vec<Option<Shared<Tree>>>,
     last: TreeRef,
     outcome: &Outcome,
@@ -73,7 +73,7 @@ fn tree_of(outcome: &Outcome) -> Result<Option<Shared<Tree>>, NoMemory>
 }
 
 /// The tree of the last key, or the empty tree.
-fn last_of(chain: &[Key]) -> TreeRef
+pub fn last_of(chain: &[Key]) -> TreeRef
     ensures { result ≡ last_of chain.now }
 {
     let mut last = TreeRef::Empty;

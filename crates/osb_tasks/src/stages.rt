@@ -1,18 +1,81 @@
 //! One stage, with the trees that were found before.
-ghost use Rattle.std.specs.Prelude.{◌≡◌, ◌≢◌, ◌<◌, Some, Err, unwrap_or, IfOk, option_map, option_copied, length, true};
+ghost use Rattle.std.specs.Prelude.{◌≡◌, ◌≢◌, ◌+◌, ◌<◌, ◌≤◌, Some, Err, unwrap_or, IfOk, OnOk, option_map, option_copied, length, slice_get, true};
 ghost use Rattle.std.specs.List.{All};
 ghost use Rattle.std.specs.Result.{result_map_both};
 ghost use Rattle.osb_recipe.specs.Recipes.{IsInputBelow, IsBelow};
 ghost use Rattle.osb_recipe.specs.Meanings.{build_at, input_at, inputs_at, work_of};
 ghost use Rattle.osb_recipe.specs.Works.{tool_fault, given_tree, input_trees, does};
 ghost use Rattle.osb_tasks.specs.Ready.{has_build, has_input, has_inputs, can_run};
+ghost use Rattle.osb_tasks.specs.Stages.{made_of, made_at, steps_of, steps_at};
 
-use crate::ready::tree_at;
+use crate::ready::{can_run, tree_at};
 use osb_base::Steps;
-use osb_recipe::{InputRecipe, Recipe, TreeRef, files_tree, missing_tool, run_stage};
-use osb_tree::{Bytes, Inputs, List, NoMemory, PutFault, Shared, StageFault, Text, Tree};
-use std::alloc::Global;
+use osb_recipe::{InputRecipe, Recipe, Table, TreeRef, files_tree, missing_tool, run_stage};
+use osb_tree::{Bytes, Inputs, Key, List, NoMemory, PutFault, Shared, StageFault, Text, Tree};
+use std::alloc::{AllocError, Global};
 use std::sync::ledger::Ledger;
+
+/// What a stage made of a tree.
+#[derive(Drop)]
+pub enum Made {
+    Tree(Tree),
+    Fault(StageFault),
+    /// Nothing: something that it is made with has no tree.
+    Blocked,
+}
+
+/// What the stage of a key makes of a tree, with the trees that are found, by key. The stage is run, which is one step,
+/// unless there are no trees for its inputs.
+pub fn stage_at<L: Ledger>(
+    alloc: Global,
+    table: &Table,
+    found: &[Option<Shared<Tree>>],
+    key: Key,
+    base: Tree,
+    steps: &mut Steps<L>,
+) -> Result<Made, NoMemory>
+    requires found { length found.now ≡ length table.now.recipes }
+    ensures made { IfOk result (λ made. made ≡ made_at found.now table.now key base) }
+    ensures steps { OnOk result (steps.new ≡ steps.old + steps_at found.now table.now key) }
+    ensures more { steps.old ≤ steps.new }
+    ensures most { steps.new ≤ steps.old + steps_at found.now table.now key }
+{
+    match recipe_at(table.recipes(), key) {
+        Some(recipe) => stage_made(alloc, found, table.blobs(), recipe, base, steps),
+        None => Ok(Made::Blocked),
+    }
+}
+
+fn recipe_at(recipes: &[Recipe], key: Key) -> Option<&Recipe>
+    ensures { option_copied result ≡ slice_get recipes.now key.0 }
+{
+    recipes.get(key.0 as usize)
+}
+
+/// What a stage makes of a tree.
+fn stage_made<L: Ledger>(
+    alloc: Global,
+    found: &[Option<Shared<Tree>>],
+    blobs: &[Bytes],
+    recipe: &Recipe,
+    base: Tree,
+    steps: &mut Steps<L>,
+) -> Result<Made, NoMemory>
+    requires below { IsBelow (length found.now) (length blobs.now) recipe.now }
+    ensures made { IfOk result (λ made. made ≡ made_of (option_map (λ work. does work base) (work_of found.now blobs.now recipe.now))) }
+    ensures steps { OnOk result (steps.new ≡ steps.old + steps_of (work_of found.now blobs.now recipe.now)) }
+    ensures more { steps.old ≤ steps.new }
+    ensures most { steps.new ≤ steps.old + steps_of (work_of found.now blobs.now recipe.now) }
+{
+    if !can_run(found, recipe) {
+        return Ok(Made::Blocked);
+    }
+    match stage_tree(alloc, found, blobs, recipe, base, steps) {
+        Ok(tree) => Ok(Made::Tree(tree)),
+        Err(StageFault::NoMemory) => Err(AllocError),
+        Err(fault) => Ok(Made::Fault(fault)),
+    }
+}
 
 /// What a stage that can run makes of a tree.
 pub(crate) fn stage_tree<L: Ledger>(
@@ -25,7 +88,10 @@ pub(crate) fn stage_tree<L: Ledger>(
 ) -> Result<Tree, StageFault>
     requires ready { can_run found.now recipe.now ≡ true }
     requires below { IsBelow (length found.now) (length blobs.now) recipe.now }
-    ensures { result ≢ Err StageFault.NoMemory → option_map (λ work. does work base) (work_of found.now blobs.now recipe.now) ≡ Some result }
+    ensures made { result ≢ Err StageFault.NoMemory → option_map (λ work. does work base) (work_of found.now blobs.now recipe.now) ≡ Some result }
+    ensures steps { result ≢ Err StageFault.NoMemory → steps.new ≡ steps.old + steps_of (work_of found.now blobs.now recipe.now) }
+    ensures more { steps.old ≤ steps.new }
+    ensures most { steps.new ≤ steps.old + steps_of (work_of found.now blobs.now recipe.now) }
 {
     let build = build_at(alloc, found, recipe.build)?;
     match input_trees(alloc, found, blobs, recipe.inputs.as_slice()) {

@@ -30,7 +30,7 @@ returns-in-Err g c =
     on_ok c.fault_outcome.result
     (λ outcome is. is.1
     ∙ stages_stop c.args.found.now c.args.table.now.blobs c.args.table.now.recipes c.args.chain.now c.loop-place.place (key_at c.args.chain.now c.loop-place.place) c.recipe_at-recipe.result.now c.loop-place.tree c.in-Err.fault _ stage
-    (ap (λ (blobs : List (List ℕ)). option_map (λ (work : Work). does work c.loop-place.tree) (work_of c.args.found.now blobs c.recipe_at-recipe.result.now)) (sym c.blobs-blobs.ensures.blobs) ∙ c.in-Err.ensures (λ e. is.0 (cc)))
+    (ap (λ (blobs : List (List ℕ)). option_map (λ (work : Work). does work c.loop-place.tree) (work_of c.args.found.now blobs c.recipe_at-recipe.result.now)) (sym c.blobs-blobs.ensures.blobs) ∙ c.in-Err.ensures.made (λ e. is.0 (cc)))
     c.loop-place.invariant.made)
     c.fault_outcome.ensures
 
@@ -41,6 +41,6 @@ loop-place-preserved g c =
     record {
       ready = stage.later;
       made = stages_go_on c.args.found.now c.args.table.now.blobs c.args.table.now.recipes c.args.chain.now c.loop-place.place (key_at c.args.chain.now c.loop-place.place) c.recipe_at-recipe.result.now c.loop-place.tree c.in-Ok.tree _ stage
-          (ap (λ (blobs : List (List ℕ)). option_map (λ (work : Work). does work c.loop-place.tree) (work_of c.args.found.now blobs c.recipe_at-recipe.result.now)) (sym c.blobs-blobs.ensures.blobs) ∙ c.in-Ok.ensures (λ e. cc))
+          (ap (λ (blobs : List (List ℕ)). option_map (λ (work : Work). does work c.loop-place.tree) (work_of c.args.found.now blobs c.recipe_at-recipe.result.now)) (sym c.blobs-blobs.ensures.blobs) ∙ c.in-Ok.ensures.made (λ e. cc))
           c.loop-place.invariant.made;
     }
