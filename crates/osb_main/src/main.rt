@@ -2,27 +2,13 @@
 //! output.
 #![tactic(auto)]
 
-mod folder;
-mod output;
-mod readings;
-mod shelf_files;
-mod stops;
-#[cfg(test)]
-mod tests;
-mod writings;
-
-use folder::FolderExporter;
 use osb_base::Fetcher;
+use osb_host::{FileShelf, FolderExporter, Output};
 use osb_top::{inspect, run_serial};
-use output::Output;
-use shelf_files::FileShelf;
 use std::io::ErrorKind;
 use std::process::ExitCode;
 use std::rt::Env;
 use std::{env, io};
-
-/// How often a file is read or written at most until it is given up.
-const MOST_TURNS: u64 = 1 << 40;
 
 const EXPORT_ROOT: &str = "out";
 

@@ -6,7 +6,7 @@ use osb_base::{ReadStop, WriteStop};
 use std::io;
 use std::io::ErrorKind;
 
-pub fn read_stop(error: &io::Error) -> ReadStop
+pub(crate) fn read_stop(error: &io::Error) -> ReadStop
     ensures { result ≡ ReadStop.NoMemory ↔ error_kind error.now ≡ ErrorKind.OutOfMemory }
 {
     match error.kind() {
@@ -15,7 +15,7 @@ pub fn read_stop(error: &io::Error) -> ReadStop
     }
 }
 
-pub fn write_stop(error: &io::Error) -> WriteStop
+pub(crate) fn write_stop(error: &io::Error) -> WriteStop
     ensures { result ≡ WriteStop.NoMemory ↔ error_kind error.now ≡ ErrorKind.OutOfMemory }
 {
     match error.kind() {

@@ -1,6 +1,6 @@
 //! The bytes of an opened file, read until its end or the limit of a shelf.
 ghost use Rattle.std.specs.Prelude.{◌≡◌, ◌<◌, ◌≤◌, length, None, Some, Ok, IsErrAnd, IfOk, IfSome, IsTrue, OnOk, vec_len};
-ghost use Rattle.osb_main.specs.Fronts.{HasAppended, IsWhole};
+ghost use Rattle.osb_host.specs.Fronts.{HasAppended, IsWhole};
 ghost use Rattle.std.specs.IoError.{error_kind};
 ghost use Rattle.osb_base.specs.Shelves.{IsCut, cut};
 
@@ -15,7 +15,7 @@ use std::io::{ErrorKind, Read};
 const CHUNK: usize = 65_536;
 
 /// What a shelf answers where this came of opening a file.
-pub fn read_opened<F: Read + Drop>(
+pub(crate) fn read_opened<F: Read + Drop>(
     alloc: Global,
     opened: io::Result<F>,
 ) -> Result<Option<Bytes>, ReadStop>

@@ -3,7 +3,7 @@ use Rattle.std.proofs.Common.{◌≡◌, ℕ, ◌≤◌, ◌<◌, List, [], ◌+
 use Rattle.std.proofs.lemmas.List.{take_all, take-append-le}
 use Rattle.std.specs.Io.KnownBytes.{Consumes}
 use Rattle.osb_base.specs.Shelves.{cut}
-use Rattle.osb_main.specs.Fronts.{IsWhole}
+use Rattle.osb_host.specs.Fronts.{IsWhole}
 
 pub Consumes-append : (all before now : Option (List ℕ)) (front piece : List ℕ) → Consumes all before front → Consumes before now piece → Consumes all now (front ++ piece)
 Consumes-append None before now front piece p q = tt

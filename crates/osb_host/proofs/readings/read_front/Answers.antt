@@ -2,8 +2,8 @@ use Rattle.std.proofs.Common.{rules, ◌≡◌, ◌≤◌, IfSome, length, sym, 
 use Rattle.std.proofs.lemmas.List.{places}
 use Rattle.std.specs.Io.KnownBytes.{Consumes}
 use Rattle.osb_base.specs.Shelves.{cut}
-use Rattle.osb_main.proofs.Fronts.{Consumes-append, Consumes-nothing, cut_whole}
-use Rattle.osb_main.proofs.readings.read_front.Goals as goal
+use Rattle.osb_host.proofs.Fronts.{Consumes-append, Consumes-nothing, cut_whole}
+use Rattle.osb_host.proofs.readings.read_front.Goals as goal
 
 pub loop-init : goal.loop-init
 loop-init g c =

@@ -1,6 +1,6 @@
 use Rattle.std.proofs.Common.{◌++◌, take}
-use Rattle.osb_main.proofs.Rests.{done-front, Appends-append}
-use Rattle.osb_main.proofs.writings.write_whole.Goals as goal
+use Rattle.osb_host.proofs.Rests.{done-front, Appends-append}
+use Rattle.osb_host.proofs.writings.write_whole.Goals as goal
 
 pub loop-preserved : goal.loop-preserved
 loop-preserved g c =

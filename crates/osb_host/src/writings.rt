@@ -9,7 +9,7 @@ use crate::stops::write_stop;
 use osb_base::{Failed, WriteStop};
 use std::io::{ErrorKind, Write};
 
-pub fn write_whole<W: Write>(out: &mut W, bytes: &[u8]) -> Result<(), WriteStop>
+pub(crate) fn write_whole<W: Write>(out: &mut W, bytes: &[u8]) -> Result<(), WriteStop>
     ensures { OnOk result (Appends (W.contents out.old) (W.contents out.new) bytes.now) }
 {
     let mut rest = bytes;
@@ -37,7 +37,7 @@ fn write_some<W: Write>(out: &mut W, bytes: &[u8]) -> Result<usize, WriteStop>
 }
 
 /// One write of a front of a piece, which is out when this returns.
-pub fn write_piece<W: Write>(out: &mut W, piece: &[u8]) -> Result<usize, Failed>
+pub(crate) fn write_piece<W: Write>(out: &mut W, piece: &[u8]) -> Result<usize, Failed>
     ensures within { IfOk result (λ count. count ≤ length piece.now) }
     ensures some { IfOk result (λ count. 0 < length piece.now → 0 < count) }
     ensures bytes { IfOk result (λ count. Appends (W.contents out.old) (W.contents out.new) (take count piece.now)) }

@@ -10,7 +10,7 @@ use std::{env, fs, io, process};
 fn new_folder(rt: &HostRuntime, name: &str) -> io::Result<String> {
     let number = process::id(rt.process());
     let folder = env::temp_dir(rt)?;
-    let folder = format!(in rt.alloc(); "{}/osb_main-{number}-{name}", folder.as_str())?;
+    let folder = format!(in rt.alloc(); "{}/osb_host-{number}-{name}", folder.as_str())?;
     fs::create_dir(rt, folder.as_str())?;
     Ok(folder)
 }

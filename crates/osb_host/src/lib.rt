@@ -1,0 +1,19 @@
+//! Files, folders and standard output of the host, each behind the trait of the outside that it stands for. They tell
+//! nothing of content, and each counts its faults.
+#![tactic(auto)]
+
+mod folder;
+mod output;
+mod readings;
+mod shelf_files;
+mod stops;
+#[cfg(test)]
+mod tests;
+mod writings;
+
+pub use folder::FolderExporter;
+pub use output::Output;
+pub use shelf_files::FileShelf;
+
+/// How often a file is read or written at most until it is given up.
+const MOST_TURNS: u64 = 1 << 40;
