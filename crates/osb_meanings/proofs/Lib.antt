@@ -1,0 +1,11 @@
+pub mod Gives
+pub mod Trees
+pub mod FilesTrees
+pub mod Readings
+pub mod Ranges
+pub mod Files
+pub mod Attributes
+pub mod Accounts
+pub mod Systems
+pub mod Effects
+pub mod Meanings

@@ -1,0 +1,4 @@
+//! What recipes mean is a tree.
+#![tactic(auto)]
+
+pub mod laws;
