@@ -13,6 +13,7 @@ pub enum Kind {
     Chunks,
     Cache,
     Plan,
+    Job,
 }
 
 impl Kind {
@@ -31,6 +32,7 @@ impl Kind {
             "chunks" => Some(Kind::Chunks),
             "cache" => Some(Kind::Cache),
             "plan" => Some(Kind::Plan),
+            "job" => Some(Kind::Job),
             _ => None,
         }
     }
@@ -57,6 +59,7 @@ impl Kind {
             Kind::Chunks => matches!(word, "puts" | "random" | "changes"),
             Kind::Cache => matches!(word, "limit" | "script"),
             Kind::Plan => matches!(word, "words" | "word" | "file" | "build"),
+            Kind::Job => matches!(word, "words" | "word" | "file" | "build" | "script"),
         }
     }
 }

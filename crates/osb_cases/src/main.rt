@@ -7,6 +7,7 @@ mod cases;
 mod chunks;
 mod differences;
 mod entries;
+mod jobs;
 mod kinds;
 mod marks;
 mod mirrors;

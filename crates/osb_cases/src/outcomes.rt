@@ -4,7 +4,7 @@ use crate::kinds::Kind;
 use crate::marks::marks_answer;
 use crate::mistakes::{CaseFault, Mistake};
 use crate::parts::text_of;
-use crate::{boards, caches, chunks, plans, puts, runs, stages};
+use crate::{boards, caches, chunks, jobs, plans, puts, runs, stages};
 use osb_base::NoMemory;
 use osb_pyjson::{PyFault, py_string, py_text};
 use osb_recipe::Plan;
@@ -23,6 +23,7 @@ pub enum Outcome {
     Chunks(chunks::Chunked),
     Cache(caches::Replies),
     Plan(Plan),
+    Job(jobs::Wanted),
 }
 
 /// Makes the call of a case.
@@ -39,6 +40,7 @@ pub fn make_call(alloc: Global, case: &Case) -> Result<Outcome, CaseFault> {
         Kind::Chunks => Ok(Outcome::Chunks(chunks::make_chunks(alloc, case)?)),
         Kind::Cache => Ok(Outcome::Cache(caches::run_script(alloc, case)?)),
         Kind::Plan => Ok(Outcome::Plan(plans::make_plan(alloc, case)?)),
+        Kind::Job => Ok(Outcome::Job(jobs::run_script(alloc, case)?)),
     }
 }
 
@@ -54,6 +56,7 @@ impl Outcome {
             Outcome::Chunks(chunks) => chunks.section(alloc, due)?.map(String::into_bytes),
             Outcome::Cache(replies) => replies.section(alloc, due)?,
             Outcome::Plan(plan) => plans::section(alloc, plan, due)?.map(String::into_bytes),
+            Outcome::Job(wanted) => wanted.section(alloc, due)?,
         };
         match came {
             Some(bytes) => Ok(bytes),

@@ -1,5 +1,6 @@
 ghost use Rattle.std.specs.Prelude.{IfOk};
 ghost use Rattle.std.specs.List.{All};
+ghost use Rattle.osb_recipe.specs.Plans.{IsSound};
 ghost use Rattle.osb_plan.specs.Bridge.{IsReady};
 
 use crate::cases::Case;
@@ -16,7 +17,9 @@ use std::alloc::Global;
 use std::fmt::Write;
 
 /// The plan of a case's builds.
-pub fn make_plan(alloc: Global, case: &Case) -> Result<Plan, CaseFault> {
+pub fn make_plan(alloc: Global, case: &Case) -> Result<Plan, CaseFault>
+    ensures sound { IfOk result IsSound }
+{
     let builds = builds(alloc, case)?;
     Ok(plan(alloc, &builds, Table::new(alloc)?)?)
 }

@@ -125,7 +125,7 @@ fn option_words(alloc: Global, fault: &OptionFault) -> Result<String, CaseFault>
     Ok(format!(in alloc; "{words} {}", name.as_str())?)
 }
 
-fn fault_words(alloc: Global, fault: &StageFault) -> Result<String, CaseFault> {
+pub fn fault_words(alloc: Global, fault: &StageFault) -> Result<String, CaseFault> {
     let text = match fault {
         StageFault::Missing(path) => at_path(alloc, "fault 1 Missing", path)?,
         StageFault::Exists(path) => at_path(alloc, "fault 2 Exists", path)?,
