@@ -1,10 +1,15 @@
 """Prints the cases of a worker's job: scripts of replies with the actions that are due, by a plain reading of the rules.
 
 Usage: python3 vectors/jobs.py > crates/osb_cases/data/jobs.cases
+       python3 vectors/jobs.py refusals > crates/osb_cases/data/job-refusals.cases
+
+With `refusals` each script is there with memory refused at each of its steps.
 
 A job is a generator here: it yields each action, is sent the reply, and memory that is refused is an exception at the
 action that it waits at. What stages make is written down beside the manifests: sizes, chunks and faults.
 """
+
+import sys
 
 
 class Refused(Exception):
@@ -159,15 +164,14 @@ def script_for(tasks, claims, looks=(), reserves=(), fetches=()):
 MAY_BE_REFUSED = {"claim", "fetch", "look", "read", "reserve"}
 
 
-def refusals(tasks, script, first):
-    """The script with memory refused at each of its lines from one on: to the action, where that may be, and to the work
-    behind the reply. What is due then ends with the task's end, and a claim that finds all over."""
+def refusals(tasks, script):
+    """The script with memory refused at each of its lines: to the action, where that may be, and to the work behind the
+    reply. What is due then ends with the task's end, and a claim that finds all over."""
     wanted = play(tasks, script)
-    for place in range(first, len(script)):
+    for place in range(len(script)):
         if wanted[place].split()[0] in MAY_BE_REFUSED:
-            yield f"to the action {place - first}, {wanted[place]}", finished(tasks, script[:place] + ["refuse"])
-        behind = f"behind the reply {place - first}, {script[place]}"
-        yield behind, finished(tasks, script[:place] + [script[place] + " refused"])
+            yield finished(tasks, script[:place] + ["refuse"])
+        yield finished(tasks, script[:place] + [script[place] + " refused"])
 
 
 def finished(tasks, script):
@@ -254,7 +258,11 @@ DEPS = """
    "options":{"paths":[{"from":"input://a/a","to":"tree:///a"},{"from":"input://b/b","to":"tree:///b"}]}},
   {"type":"org.osbuild.mkdir","options":{"paths":[{"path":"/c"}]}}]}]}
 """
-DEP_TASKS = [Task([0], [0], made=[A]), Task([1], [1], made=[A]), Task([2, 3], [3], [0, 1], made=[small(197, 3), small(263, 4)])]
+DEP_TASKS = [
+    Task([0], [0], made=[A]),
+    Task([1], [1], made=[A]),
+    Task([2, 3], [3], [0, 1], made=[small(197, 3), small(263, 4)]),
+]
 
 # Directories, 156 of three digits, 90 of two and 10 of one: 64 and the bytes of the path, which has a slash and a `d`.
 WIDE_SIZE = 65 + 156 * (64 + 5) + 90 * (64 + 4) + 10 * (64 + 3)
@@ -277,55 +285,78 @@ def wide_file():
 WIDE_TASKS = [Task([0], [0], made=[wide()])]
 
 
-def heading(comment, file, exports, words="*"):
-    return f"# {comment}\n\ncall job\nwords {words}\nbuild m.json {exports}\n{file}"
+class Group:
+    """Cases over the builds of one manifest. A script has lines before those of the case itself, if it needs what an
+    earlier task has left."""
+
+    def __init__(self, comment, file, exports, tasks):
+        self.head = f"# {comment}\n\ncall job\nwords *\nbuild m.json {exports}\n{file}"
+        self.tasks = tasks
+        self.scripts = []
+
+    def add(self, name, script, before=()):
+        self.scripts.append((name, list(before), list(script)))
+
+    def task(self, name, claims, before=(), **answers):
+        """A case of a job that claims these tasks, the last of which it is about."""
+        self.add(name, script_for(self.tasks, claims, **answers), before)
+
+    def text(self):
+        cases = [case(name, self.tasks, before + script) for name, before, script in self.scripts]
+        return "\n".join([self.head, *cases])
+
+    def refused_text(self):
+        cases = []
+        for name, before, script in self.scripts:
+            lines = before + ["new"] if before else []
+            for refused in refusals(self.tasks, script):
+                lines += refused + ["new"]
+            cases.append(case(name, self.tasks, lines[:-1]))
+        return "\n".join([self.head, *cases])
 
 
-def main():
-    out = [
-        "# A worker's job: what it wants after each reply, or after memory was refused. Printed by vectors/jobs.py, a plain\n"
-        "# reading of the rules.\n",
-        heading("Four tasks, each over the stages of the one before: every stage is marked.", manifest("m.json", THREE), "one,two,three,four"),
-    ]
+def ended(tasks, claims):
+    """The script of a job that has claimed these tasks and is not over."""
+    return script_for(tasks, claims)[:-1]
+
+
+def letters():
     tasks = THREE_TASKS
-    out.append(case("no task is left", tasks, ["over"]))
-    out.append(case("a claim that finds no task is made again", tasks, ["idle", "task 0", "miss", "too large", "ok", "over"]))
-    out.append(case("a task without dependencies", tasks, script_for(tasks, [0])))
-    out.append(case("the trees of all stages are kept", tasks, script_for(tasks, [2])))
-    for name, reserves in [
-        ("the first entry is already there", ["already"]),
-        ("the middle entry is already there", ["room", "already"]),
-        ("the last entry is already there", ["room", "room", "already"]),
-        ("no entry fits", ["too large"] * 3),
-        ("the cache is full", ["full"] * 3),
-        ("each is answered something else", ["full", "already", "too large"]),
-    ]:
-        out.append(case(name, tasks, script_for(tasks, [2], reserves=reserves)))
+    comment = "Four tasks, each over the stages of the one before: every stage is marked."
+    group = Group(comment, manifest("m.json", THREE), "one,two,three,four", tasks)
+    group.add("no task is left", ["over"])
+    group.add("a claim that finds no task is made again", ["idle", "task 0", "miss", "too large", "ok", "over"])
+    group.task("a task without dependencies", [0])
+    group.task("the trees of all stages are kept", [2])
+    group.task("the first entry is already there", [2], reserves=["already"])
+    group.task("the middle entry is already there", [2], reserves=["room", "already"])
+    group.task("the last entry is already there", [2], reserves=["room", "room", "already"])
+    group.task("no entry fits", [2], reserves=["too large"] * 3)
+    group.task("the cache is full", [2], reserves=["full"] * 3)
+    group.task("each is answered something else", [2], reserves=["full", "already", "too large"])
     for place, name in [(2, "first"), (1, "middle"), (0, "last")]:
-        out.append(case(f"a hit at the {name} marked stage", tasks, script_for(tasks, [2, 2], ["miss", f"hit {place}"])))
-    out.append(case("a hit of the shorter task's entry", tasks, script_for(tasks, [1, 3], ["miss", "hit 2"])))
-    filled = script_for(tasks, [2])[:-1]
-    hit = filled + script_for(tasks, [3], ["hit 2"])
-    for name, script in refusals(tasks, script_for(tasks, [1]), 0):
-        out.append(case(f"memory is refused {name}", tasks, script))
-    for name, script in refusals(tasks, hit, len(filled)):
-        out.append(case(f"after a hit memory is refused {name}", tasks, script))
-    out.append(case("a new job claims what one before has left", tasks, ["task 0", "refuse", "ok", "over", "new", "task 0", "miss", "full", "ok", "over"]))
+        group.task(f"a hit at the {name} marked stage", [2], before=ended(tasks, [2]), looks=[f"hit {place}"])
+    group.task("a hit of the shorter task's entry", [3], before=ended(tasks, [1]), looks=["hit 2"])
+    return group
 
+
+def faults():
     tasks = FAULT_TASKS
-    out.append(heading("Stages with faults, and a missing tool: every pipeline's last stage is marked, and `front` marks one of others.", manifest("m.json", FAULTS), "first,middle,last,front,tools"))
+    comment = "Stages with faults, and a missing tool: last stages are marked, and that of `front` is the first of others."
+    group = Group(comment, manifest("m.json", FAULTS), "first,middle,last,front,tools", tasks)
     for number, name in enumerate(["first", "middle", "last"]):
-        out.append(case(f"the {name} stage has a fault", tasks, script_for(tasks, [number])))
-    out.append(case("the middle stage has a fault behind a hit", tasks, script_for(tasks, [3, 1], ["miss", "hit 1"])))
-    out.append(case("a tool is missing in the build tree", tasks, script_for(tasks, [3, 4])))
-    out.append(case("what a task is built with is blocked", tasks, script_for(tasks, [4], fetches=["blocked"])))
-    for name, script in refusals(tasks, script_for(tasks, [1]), 0):
-        out.append(case(f"before a fault memory is refused {name}", tasks, script))
+        group.task(f"the {name} stage has a fault", [number])
+    group.task("the middle stage has a fault behind a hit", [1], before=ended(tasks, [3]), looks=["hit 1"])
+    group.task("a tool is missing in the build tree", [4], before=ended(tasks, [3]))
+    group.task("what a task is built with is blocked", [4], fetches=["blocked"])
+    return group
 
+
+def dependencies():
     tasks = DEP_TASKS
-    out.append(heading("A task with two dependencies.", manifest("m.json", DEPS), "a,b,ab"))
-    both = script_for(tasks, [0, 1])[:-1]
-    out.append(case("both dependencies have trees", tasks, both + script_for(tasks, [2])))
+    group = Group("A task with two dependencies.", manifest("m.json", DEPS), "a,b,ab", tasks)
+    both = ended(tasks, [0, 1])
+    group.task("both dependencies have trees", [2], before=both)
     for name, fetches in [
         ("the first is blocked", ["blocked", "fetched"]),
         ("the second is blocked", ["fetched", "blocked"]),
@@ -334,18 +365,31 @@ def main():
         ("the first is blocked and the second has no memory", ["blocked", "no memory"]),
         ("the first has no memory and the second is blocked", ["no memory", "blocked"]),
     ]:
-        out.append(case(name, tasks, both + script_for(tasks, [2], fetches=fetches)))
-    for name, script in refusals(tasks, both + script_for(tasks, [2]), len(both)):
-        out.append(case(f"with two dependencies memory is refused {name}", tasks, script))
+        group.task(name, [2], before=both, fetches=fetches)
+    return group
 
+
+def chunks():
     tasks = WIDE_TASKS
-    out.append(heading("A tree of 257 paths, which is two chunks.", wide_file(), "wide"))
-    out.append(case("two chunks are put", tasks, script_for(tasks, [0])))
-    out.append(case("two chunks are read", tasks, script_for(tasks, [0, 0], ["miss", "hit 0"])))
-    filled = script_for(tasks, [0])[:-1]
-    for name, script in refusals(tasks, filled + script_for(tasks, [0], ["hit 0"]), len(filled)):
-        out.append(case(f"of two chunks memory is refused {name}", tasks, script))
-    print("\n".join(out), end="")
+    group = Group("A tree of 257 paths, which is two chunks.", wide_file(), "wide", tasks)
+    group.task("two chunks are put", [0])
+    group.task("two chunks are read", [0], before=ended(tasks, [0]), looks=["hit 0"])
+    return group
+
+
+HEAD = """# A worker's job: what it wants after each reply{}. Printed by vectors/jobs.py, a plain
+# reading of the rules.
+"""
+
+
+def main():
+    groups = [letters(), faults(), dependencies(), chunks()]
+    if sys.argv[1:] == ["refusals"]:
+        texts = [HEAD.format(", once for each step at which memory is refused")]
+        texts += [group.refused_text() for group in groups]
+    else:
+        texts = [HEAD.format(""), *(group.text() for group in groups)]
+    print("\n".join(texts), end="")
 
 
 main()
