@@ -1,0 +1,13 @@
+//! The build machine: what workers share, and what each action does to it.
+#![tactic(auto)]
+
+pub mod laws;
+mod opened;
+mod openings;
+mod places;
+mod shares;
+mod stagings;
+
+pub use opened::Opened;
+pub use shares::{Finished, Shared};
+pub use stagings::Staging;
