@@ -32,3 +32,5 @@ pub mod TrueTold
 pub mod TrueMoves
 pub mod ReplayedLogs
 pub mod KeptEntries
+pub mod TurnsMade
+pub mod RunsMade

@@ -1,5 +1,5 @@
 -- What `run_schedule` gives.
-use Rattle.std.specs.Prelude.{◌≡◌, ◌≢◌, ℕ, ◌<◌, true, false, List, [], ◌∷◌, length, map, All, Option, Some, None}
+use Rattle.std.specs.Prelude.{◌≡◌, ◌≢◌, ℕ, ◌<◌, true, false, List, [], ◌∷◌, length, map, All, Option, Some, None, slice_get, slice_set}
 use Rattle.std.specs.List.{zip}
 use Rattle.std.specs.Map.{keys_of}
 use Rattle.osb_tree.specs.Trees.{Listing, tree_size}
@@ -15,9 +15,9 @@ use Rattle.osb_job.specs.declared.places.Place.{Place}
 use Rattle.osb_job.specs.Jobs.{JobState, wants}
 use Rattle.osb_job.specs.Scripts.{next}
 use Rattle.osb_machine.specs.States.{State, progress_in, is_refusable}
-use Rattle.osb_machine.specs.Openings.{opened_state}
 use Rattle.osb_machine.specs.Runs.{Course, step, run}
-use Rattle.osb_machine.specs.Turns.{Turns, GoesBy}
+use Rattle.osb_machine.specs.Openings.{opened_state}
+use Rattle.osb_machine.specs.Turns.{Acts, Turns, GoesBy}
 
 -- a state as it is opened with some entries of the plan's keys, each the chunks of a tree, and a limit
 pub record IsOpening (plan : Plan) (opening : List (Stored Listing)) (limit : ℕ) (state : State) : Type 0 where
@@ -39,10 +39,26 @@ pub record Turned (plan : Plan) (worker : WorkerNo) (flag : Flag) (state state' 
   pub counts : Counts (wants place) flag met
   pub turns : Turns plan worker met state state' place place'
 
+-- the same of a job that has asked, where its action need not wait
+pub record Acted (plan : Plan) (worker : WorkerNo) (flag : Flag) (state state' : State) (place place' : Place) (action : Action) : Type 0 where
+  pub met : Flag
+  pub counts : Counts (Some action) flag met
+  pub acts : Acts plan worker met state state' place place' action
+
 abbrev pub places_of : List JobState → List Place
 places_of jobs = map (λ job. job.place) jobs
 
+-- jobs stand by the numbers of their workers
+abbrev pub HaveNumbers : List JobState → Type 0
+HaveNumbers jobs = (number : ℕ) (job : JobState) → slice_get jobs number ≡ Some job → job.worker.0 ≡ number
+
 -- ---- a whole schedule
+
+-- each turn is made by its worker, one after the other: from a state with its jobs to one at the end
+pub data Runs (plan : Plan) (end : State) (last : List Place) : State → List Place → List (WorkerNo × Flag) → Type 0 where
+  stops : Runs plan end last end last []
+  goes_on : (state state' : State) (places : List Place) (place place' : Place) (worker : WorkerNo) (flag : Flag) (schedule : List (WorkerNo × Flag)) → slice_get places worker.0 ≡ Some place → Turned plan worker flag state state' place place'
+      → Runs plan end last state' (slice_set places worker.0 place') schedule → Runs plan end last state places ((worker, flag) ∷ schedule)
 
 -- the flags that were met, one for each turn of a course
 abbrev pub CountAlong : Plan → Course → List (WorkerNo × Flag) → List Flag → Type 0

@@ -6,6 +6,7 @@ ghost use Rattle.osb_recipe.specs.Plans.{IsSound};
 ghost use Rattle.osb_board.specs.Boards.{outcomes};
 ghost use Rattle.osb_cache.specs.Caches.{stored_of, CanOpen};
 ghost use Rattle.osb_machine.specs.Openings.{opened_state};
+ghost use Rattle.osb_machine.specs.Kept.{Valid};
 ghost use Rattle.osb_machine.specs.States.{Allows, gives, after, is_ready, is_refusable};
 ghost use Rattle.std.specs.List.{slice_index_or};
 ghost use Rattle.osb_job.specs.Moves.{reserve_event};
@@ -97,9 +98,17 @@ impl Shared {
         })
     }
 
+    /// What holds of the state, for proofs.
+    pub(crate) fn state_is_valid(&self)
+        ensures valid { Valid self.now }
+    {
+        let _ = &self.log;
+    }
+
     /// Whether the action need not wait for another worker: a claim has to where tasks wait and none is ready.
     pub fn ready(&self, _worker: WorkerNo, action: &Action) -> bool
         ensures ready { result ≡ is_ready self.now action.now }
+        ensures valid { Valid self.now }
     {
         match action {
             Action::Claim => !self.board.is_idle(),
