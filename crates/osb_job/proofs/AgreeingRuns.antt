@@ -71,7 +71,7 @@ way-goes_on plan setup words looked tried run tree base rest way =
     let Alike : List Key → Type 0 = λ keys. find (is_to_keep plan (block_at setup.task words looked keys free)) (left_after looked (chain_at plan setup.task)) ≡ find (is_to_keep plan (block_at setup.task words looked keys free)) rest in
     working_on plan block way.prepared.ready way.seen ∙ ap (keeping plan block) (subst Alike (append-nil tried) (way.left []))
 
-next_place : (chain : List Key) (run : ℕ) (key : Key) (keys : List Key) → drop run chain ≡ key ∷ keys → drop (run + 1) chain ≡ keys
+pub next_place : (chain : List Key) (run : ℕ) (key : Key) (keys : List Key) → drop run chain ≡ key ∷ keys → drop (run + 1) chain ≡ keys
 next_place chain run key keys here = sym (drop-drop 1 run chain) ∙ ap (drop 1) here
 
 -- behind an unmarked key

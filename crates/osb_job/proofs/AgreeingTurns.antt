@@ -259,7 +259,7 @@ turns_as_wanted plan place progress off reply puts sound is = by place
 
 -- ---- whatever was replied
 
-agrees : (plan : Plan) (place : Place) (progress : Progress) (off : Bool) → IsSound plan → IsTable plan.table → Follows plan place progress off → Agrees plan place progress off
+pub agrees : (plan : Plan) (place : Place) (progress : Progress) (off : Bool) → IsSound plan → IsTable plan.table → Follows plan place progress off → Agrees plan place progress off
 agrees plan place progress off sound is Follows.begins = (refl, refl)
 agrees plan place progress off sound is (Follows.goes_on before after from was action reply puts event follows wanted made fits true_so comes_to is_place) =
     subst (λ (p : Place). Agrees plan p (turn from event) (refused_after event was)) (sym comes_to)

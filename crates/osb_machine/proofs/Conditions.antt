@@ -19,8 +19,8 @@ use Rattle.osb_cache.proofs.Firsts.{any_found}
 use Rattle.osb_cache.proofs.Sums.{found_by_sum}
 use Rattle.osb_job.specs.Scripts.{Hand, reads, fills, Progress, idle, progress_of}
 use Rattle.osb_job.specs.Allowed.{IsBusy, IsReading, IsFilling, MayFetch}
-use Rattle.osb_machine.specs.States.{State, hand_of, progress_in, draft_for, part}
-use Rattle.osb_machine.specs.Kept.{pins_due, drafts_due, runs, Valid}
+use Rattle.osb_state.specs.States.{State, hand_of, progress_in, draft_for, part}
+use Rattle.osb_state.specs.Kept.{pins_due, drafts_due, runs, Valid}
 
 -- ---- what the worker is at
 

@@ -29,9 +29,9 @@ use Rattle.osb_cache.proofs.Lists.{All-found}
 use Rattle.osb_cache.proofs.Lookups.{chunks_found, chunks_none}
 use Rattle.osb_cache.proofs.Sums.{found_or_none, sum_by-map}
 use Rattle.osb_job.specs.declared.entries.Entry.{Entry}
-use Rattle.osb_machine.specs.Kept.{IsEntry, Valid}
+use Rattle.osb_state.specs.Kept.{IsEntry, Valid}
 use Rattle.osb_machine.specs.Owed.{IsShared, is_running, pin_count}
-use Rattle.osb_machine.specs.Openings.{opened_state}
+use Rattle.osb_state.specs.Openings.{opened_state}
 use Rattle.osb_machine.proofs.KeptEntries.{opening_all, kept_count}
 use Rattle.osb_machine.proofs.Owing.{pins_evict}
 

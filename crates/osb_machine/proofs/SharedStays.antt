@@ -27,12 +27,12 @@ use Rattle.osb_job.specs.declared.actions.Reply.TheVariants as replies
 use Rattle.osb_job.specs.declared.entries.Event.TheVariants as events
 use Rattle.osb_job.specs.declared.entries.Entry.{Entry}
 use Rattle.osb_machine.specs.declared.stagings.Staging.{Staging}
-use Rattle.osb_machine.specs.States.{State, part, Allows, marked_in, marked_for, cache_after, board_after, entries_of, after}
-use Rattle.osb_machine.specs.Kept.{Valid}
+use Rattle.osb_state.specs.States.{State, part, Allows, marked_in, marked_for, cache_after, board_after, entries_of, after}
+use Rattle.osb_state.specs.Kept.{Valid}
 use Rattle.osb_machine.specs.Owed.{IsShared, is_running, pin_count, draft_owes, staging_of, is_staging, one_put}
 use Rattle.osb_job.specs.Scripts.{free, word_of}
 use Rattle.osb_job.specs.Moves.{event_of, look_event, reserve_event, puts_of}
-use Rattle.osb_machine.proofs.ValidMoves.{valid_stays}
+use Rattle.osb_state.proofs.ValidMoves.{valid_stays}
 use Rattle.osb_machine.proofs.Conditions.{runs_task, has_pin, has_draft, own_draft}
 use Rattle.osb_machine.proofs.StagedNumbers.{find-staged, any-staged, staged_is, put-staged, remove-staged}
 use Rattle.osb_machine.proofs.Owing.{running_claimed, running_done, pins_touched, pins_unpinned, pins_evict, pins_committed, owes_reserved, owes_put, owes_removed}

@@ -10,9 +10,9 @@ use Rattle.osb_job.specs.declared.actions.Flag.TheVariants.{Fine, ActRefused, Wo
 use Rattle.osb_job.specs.declared.places.Place.{Place}
 use Rattle.osb_job.specs.declared.places.Place.TheVariants.{Outside, Gone, Fetching, Looking, Reading, Holding, Reserving, Filling, Putting, Unpinning, Dropping, Ending, Ended}
 use Rattle.osb_job.specs.Jobs.{wants, asked, taken, refused, IsTaken, IsPlace}
-use Rattle.osb_machine.specs.States.{State, is_ready, is_refusable, gives, after}
-use Rattle.osb_machine.specs.Schedules.{Counts, Acted, Turned}
-use Rattle.osb_machine.specs.Turns.{idles, acts}
+use Rattle.osb_state.specs.States.{State, is_ready, is_refusable, gives, after}
+use Rattle.osb_state.specs.Schedules.{Counts, Acted, Turned}
+use Rattle.osb_state.specs.Turns.{idles, acts}
 
 -- what was given up is given up once
 pub refused_twice : (place : Place) → refused (refused place) ≡ refused place

@@ -1,11 +1,2 @@
-pub mod States
-pub mod Kept
 pub mod Owed
-pub mod Openings
-pub mod Laws
-pub mod Runs
-pub mod Truth
-pub mod Replies
-pub mod Turns
-pub mod TurnLaws
-pub mod Schedules
+pub mod Finishes

@@ -6,8 +6,8 @@ use Rattle.osb_board.specs.declared.tasks.TaskState.TheVariants.{Waiting, Runnin
 use Rattle.osb_board.specs.Boards.{state_count}
 use Rattle.osb_cache.specs.Caches.{Line, Draft}
 use Rattle.osb_machine.specs.declared.stagings.Staging.{Staging}
-use Rattle.osb_machine.specs.States.{State}
-use Rattle.osb_machine.specs.Kept.{Valid}
+use Rattle.osb_state.specs.States.{State}
+use Rattle.osb_state.specs.Kept.{Valid}
 
 abbrev pub is_running : {O : Type 0} → TaskState O → Bool
 is_running Waiting = false

@@ -1,11 +1,16 @@
 //! The machine: shared state and the workers' jobs, and the run of a schedule.
-ghost use Rattle.std.specs.Prelude.{◌≡◌, ◌<◌, ◌≤◌, ℕ, All, List, IfOk, length, replicate};
+ghost use Rattle.std.specs.Prelude.{◌≡◌, ◌<◌, ◌≤◌, ℕ, false, All, List, IfOk, length, replicate};
 ghost use Rattle.osb_tree.specs.Trees.{Listing};
 ghost use Rattle.osb_cache.specs.declared.answers.Stored.{Stored};
-ghost use Rattle.osb_machine.specs.Truth.{IsTrueOpening};
 ghost use Rattle.osb_recipe.specs.Plans.{IsSound};
-ghost use Rattle.osb_machine.specs.Turns.{HasJobs};
-ghost use Rattle.osb_machine.specs.Schedules.{Runs, HaveNumbers, IsOpening, IsRunBy, places_of};
+ghost use Rattle.osb_state.specs.Turns.{HasJobs};
+ghost use Rattle.osb_recipe.specs.Tables.{IsTable};
+ghost use Rattle.osb_state.specs.Openings.{opened_state};
+ghost use Rattle.osb_state.specs.Schedules.{Runs, HaveNumbers, IsOpening, IsRunBy, FromTrueOpening, places_of};
+ghost use Rattle.osb_state.specs.RunLogs.{LeadsTo};
+ghost use Rattle.osb_state.specs.KeptLogs.{IsKeptLog};
+ghost use Rattle.osb_state.specs.Filling.{IsAtRest, HasMemory, IsFilled, size_of_all};
+ghost use Rattle.osb_machine.specs.Finishes.{HasMeantEnds};
 
 use crate::Shared;
 use crate::turns::turn;
@@ -38,7 +43,11 @@ pub fn run_schedule(
     requires within { All (λ turn. turn.0.0 < workers) schedule.now }
     requires opened { (opening : List (Stored Listing)) × (limit : ℕ) × IsOpening plan.now opening limit shared }
     ensures jobs { IfOk result (λ machine. HasJobs plan.now machine.shared (places_of machine.jobs)) }
-    ensures run { IfOk result (λ machine. (opening : List (Stored Listing)) (limit : ℕ) → IsOpening plan.now opening limit shared → IsTrueOpening plan.now opening → IsRunBy plan.now opening limit schedule.now machine.shared (places_of machine.jobs)) }
+    ensures run { IfOk result (λ machine. FromTrueOpening plan.now shared (λ opening limit. IsRunBy plan.now opening limit schedule.now machine.shared (places_of machine.jobs))) }
+    ensures log { IfOk result (λ machine. FromTrueOpening plan.now shared (λ opening limit. LeadsTo plan.now workers (opened_state plan.now opening limit) (λ worker. false) machine.shared.log machine.shared)) }
+    ensures kept { IfOk result (λ machine. FromTrueOpening plan.now shared (λ opening limit. IsKeptLog plan.now opening limit machine.shared.log)) }
+    ensures meant { IfOk result (λ machine. FromTrueOpening plan.now shared (λ opening limit. HasMeantEnds plan.now machine.shared)) }
+    ensures filled { IfOk result (λ machine. FromTrueOpening plan.now shared (λ opening limit. size_of_all plan.now opening ≤ limit → HasMemory machine.shared.log → IsAtRest machine.shared.log → IsFilled plan.now opening limit machine.shared.log)) }
 {
     run_by::<Brand>(alloc, plan, shared, workers, schedule, Blank::new(1))
 }
@@ -59,7 +68,8 @@ fn run_by<L: Ledger>(
     requires within { All (λ turn. turn.0.0 < workers) schedule.now }
     requires opened { (opening : List (Stored Listing)) × (limit : ℕ) × IsOpening plan.now opening limit shared }
     ensures jobs { IfOk result (λ machine. HasJobs plan.now machine.shared (places_of machine.jobs)) }
-    ensures run { IfOk result (λ machine. (opening : List (Stored Listing)) (limit : ℕ) → IsOpening plan.now opening limit shared → IsTrueOpening plan.now opening → IsRunBy plan.now opening limit schedule.now machine.shared (places_of machine.jobs)) }
+    ensures run { IfOk result (λ machine. FromTrueOpening plan.now shared (λ opening limit. IsRunBy plan.now opening limit schedule.now machine.shared (places_of machine.jobs))) }
+    ensures table { IsTable plan.now.table }
 {
     let _recipes = plan.table.recipes();
     let mut jobs = new_jobs(alloc, workers)?;

@@ -4,10 +4,10 @@ ghost use Rattle.osb_tree.specs.Trees.{tree_size};
 ghost use Rattle.osb_tree.specs.Chunks.{AreOfATree};
 ghost use Rattle.osb_recipe.specs.Plans.{IsSound};
 ghost use Rattle.osb_board.specs.Boards.{outcomes};
-ghost use Rattle.osb_cache.specs.Caches.{stored_of, CanOpen};
-ghost use Rattle.osb_machine.specs.Openings.{opened_state};
-ghost use Rattle.osb_machine.specs.Kept.{Valid};
-ghost use Rattle.osb_machine.specs.States.{Allows, gives, after, is_ready, is_refusable};
+ghost use Rattle.osb_cache.specs.Caches.{stored_of, counted, CanOpen};
+ghost use Rattle.osb_state.specs.Openings.{opened_state};
+ghost use Rattle.osb_state.specs.Kept.{Valid};
+ghost use Rattle.osb_state.specs.States.{Allows, gives, after, is_ready, is_refusable};
 ghost use Rattle.std.specs.List.{slice_index_or};
 ghost use Rattle.osb_job.specs.Moves.{reserve_event};
 
@@ -51,7 +51,7 @@ pub struct Shared {
 
 impl Model for Shared {
     ghost use Rattle.std.specs.Prelude.{vec_capacity};
-    ghost use Rattle.osb_machine.specs.States.{State};
+    ghost use Rattle.osb_state.specs.States.{State};
     ghost use Rattle.osb_machine.specs.Owed.{IsShared};
 
     ghost Value = { State };
@@ -144,6 +144,13 @@ impl Shared {
             Action::Done(task, outcome) => self.done(worker, task, outcome),
         }
         Ok(Reply::Plain)
+    }
+
+    /// The bytes of what is committed and of what is staged, together.
+    pub fn counted(&self) -> u64
+        ensures counted { result ≡ counted self.now.cache }
+    {
+        self.cache.counted()
     }
 
     /// What is left at the end.

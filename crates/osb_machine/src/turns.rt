@@ -1,11 +1,12 @@
 //! The turn of a worker with its job.
-ghost use Rattle.std.specs.Prelude.{◌≡◌, ◌↔◌, IsTrue, Some, true};
+ghost use Rattle.std.specs.Prelude.{◌≡◌, ◌↔◌, ◌+◌, ◌≤◌, IsTrue, Some, true, false};
 ghost use Rattle.osb_recipe.specs.Plans.{IsSound};
-ghost use Rattle.osb_job.specs.Jobs.{asked, Fits, IsOf};
-ghost use Rattle.osb_machine.specs.States.{Allows, gives, is_refusable};
-ghost use Rattle.osb_machine.specs.Replies.{IsOfPlan};
-ghost use Rattle.osb_machine.specs.Schedules.{Acted, Turned};
-ghost use Rattle.osb_machine.specs.Turns.{HasJob};
+ghost use Rattle.osb_job.specs.Jobs.{asked, taken, Fits, IsOf};
+ghost use Rattle.osb_state.specs.States.{Allows, gives, is_refusable};
+ghost use Rattle.osb_state.specs.Replies.{IsOfPlan};
+ghost use Rattle.osb_state.specs.Schedules.{Acted, Turned};
+ghost use Rattle.osb_state.specs.Turns.{HasJob};
+ghost use Rattle.osb_state.specs.Serial.{HasStopped, RunsStages};
 ghost use Rattle.osb_job.specs.declared.places.Place.{Place as PlaceData};
 
 use crate::Shared;
@@ -15,7 +16,8 @@ use osb_recipe::Plan;
 use std::alloc::Global;
 use std::sync::ledger::Ledger;
 
-/// One turn of a worker with its job. Memory may be refused where no flag says so.
+/// One turn of a worker with its job: whether it went on, and has neither ended nor left nor has to wait. Memory may be
+/// refused where no flag says so.
 pub(crate) fn turn<L: Ledger>(
     alloc: Global,
     plan: &Plan,
@@ -23,21 +25,25 @@ pub(crate) fn turn<L: Ledger>(
     job: &mut Job,
     flag: Flag,
     steps: &mut Steps<L>,
-)
+) -> bool
     requires sound { IsSound plan.now }
     requires of_plan { IsOfPlan plan.now shared.old }
     requires job { HasJob plan.now shared.old job.old.worker.0 job.old.place }
     ensures turned { Turned plan.now job.old.worker flag shared.old shared.new job.old.place job.new.place }
     ensures worker { job.new.worker ≡ job.old.worker }
+    ensures stages { RunsStages plan.now job.old.worker shared.old shared.new job.old.place steps.old steps.new }
+    ensures stopped { result ≡ false → HasStopped shared.new job.new.place }
 {
     let worker = job.worker();
     let _recipes = plan.table.recipes();
     let Some(action) = job.want() else {
-        return;
+        return false;
     };
-    if shared.ready(worker, &action) {
+    let ready = shared.ready(worker, &action);
+    if ready {
         act(alloc, plan, shared, job, flag, action, steps);
     }
+    ready
 }
 
 /// A job that has asked acts: its action is refused, or played and its reply taken.
@@ -56,6 +62,8 @@ fn act<L: Ledger>(
     requires fits { Fits plan.now job.old.place (gives shared.old job.old.worker action) }
     ensures acted { (place : PlaceData) → asked place ≡ job.old.place → Acted plan.now job.old.worker flag shared.old shared.new place job.new.place action }
     ensures worker { job.new.worker ≡ job.old.worker }
+    ensures none { shared.new.log ≡ shared.old.log → steps.new ≡ steps.old }
+    ensures most { steps.new ≤ steps.old + (taken plan.now job.old.place (gives shared.old job.old.worker action)).steps }
 {
     if flag == Flag::ActRefused && is_refusable(&action) {
         job.refuse();

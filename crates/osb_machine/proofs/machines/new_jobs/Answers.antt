@@ -1,4 +1,4 @@
-use Rattle.osb_machine.proofs.RunsMade.{numbers_push, places_push, length_push}
+use Rattle.osb_state.proofs.RunsMade.{numbers_push, places_push, length_push}
 use Rattle.osb_machine.proofs.machines.new_jobs.Goals as goal
 
 pub loop-number-preserved : goal.loop-number-preserved

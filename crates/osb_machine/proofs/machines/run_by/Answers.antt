@@ -2,9 +2,9 @@ use Rattle.std.proofs.Common.{◌≡◌, ℕ, ◌++◌, List, length, take, drop
 use Rattle.std.proofs.Math.Seq.{take-append_seam}
 use Rattle.osb_job.specs.Jobs.{JobState}
 use Rattle.osb_job.specs.declared.places.Place.{Place}
-use Rattle.osb_machine.specs.Turns.{HasJobs}
-use Rattle.osb_machine.specs.Schedules.{Runs, IsRunBy, places_of}
-use Rattle.osb_machine.proofs.RunsMade.{opening_has, opening_runs}
+use Rattle.osb_state.specs.Turns.{HasJobs}
+use Rattle.osb_state.specs.Schedules.{Runs, IsRunBy, places_of}
+use Rattle.osb_state.proofs.RunsMade.{opening_has, opening_runs}
 use Rattle.osb_machine.proofs.machines.run_by.Goals as goal
 
 -- the jobs that are written back are those after the turns

@@ -5,8 +5,8 @@ use Rattle.std.proofs.Common.{◌≡◌, ◌+◌, ◌<◌, ◌∷◌, List, leng
 use Rattle.osb_tree.specs.declared.numbers.WorkerNo.{WorkerNo}
 use Rattle.osb_job.specs.declared.actions.Flag.{Flag}
 use Rattle.osb_job.specs.declared.actions.Flag.TheVariants.{Fine}
-use Rattle.osb_machine.specs.Schedules.{Runs, stops, places_of}
-use Rattle.osb_machine.proofs.RunsMade.{job_here, numbers_stay, jobs_on, runs_on}
+use Rattle.osb_state.specs.Schedules.{Runs, stops, places_of}
+use Rattle.osb_state.proofs.RunsMade.{job_here, numbers_stay, jobs_on, runs_on}
 use Rattle.osb_machine.proofs.machines.run_turns.Goals as goal
 
 worker_within : (count count' n : ℕ) (schedule : List (WorkerNo × Flag)) (d : WorkerNo × Flag) → All (λ turn. turn.0.0 < count) schedule → n < length schedule → count' ≡ count → (get_or schedule n d).0.0 < count'

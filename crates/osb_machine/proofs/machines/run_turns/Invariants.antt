@@ -1,8 +1,8 @@
 use Rattle.std.proofs.Common.{List, drop}
 use Rattle.osb_job.specs.declared.places.Place.{Place}
-use Rattle.osb_machine.specs.States.{State}
-use Rattle.osb_machine.specs.Turns.{HasJobs}
-use Rattle.osb_machine.specs.Schedules.{Runs, HaveNumbers, places_of}
+use Rattle.osb_state.specs.States.{State}
+use Rattle.osb_state.specs.Turns.{HasJobs}
+use Rattle.osb_state.specs.Schedules.{Runs, HaveNumbers, places_of}
 use Rattle.osb_machine.proofs.machines.run_turns.Given as goal
 
 abbrev pub invariant-loop-next : goal.invariant-loop-next

@@ -1,6 +1,6 @@
 use Rattle.std.proofs.Common.{sym, subst, arith}
 use Rattle.osb_job.specs.declared.actions.Action.TheVariants as actions
-use Rattle.osb_machine.specs.States.{State, Allows}
+use Rattle.osb_state.specs.States.{State, Allows}
 use Rattle.osb_machine.proofs.StagedNumbers.{any-staged}
 use Rattle.osb_machine.proofs.SharedStays.{found_commit, due_commit, shared_commit}
 use Rattle.osb_machine.proofs.shares.Shared.commit.Goals as goal

@@ -1,7 +1,7 @@
 use Rattle.std.proofs.Common.{◌++◌, ◌∷◌, [], sym, ap, subst, ◌∙◌, arith}
 use Rattle.osb_job.specs.declared.actions.Action.TheVariants as actions
 use Rattle.osb_job.specs.declared.entries.Event.TheVariants as events
-use Rattle.osb_machine.specs.States.{State, Allows}
+use Rattle.osb_state.specs.States.{State, Allows}
 use Rattle.osb_job.specs.Scripts.{free}
 use Rattle.osb_machine.proofs.Conditions.{runs_task}
 use Rattle.osb_machine.proofs.SharedStays.{due_done, shared_done}

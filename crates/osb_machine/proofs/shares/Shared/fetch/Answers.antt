@@ -3,7 +3,7 @@ use Rattle.std.specs.Vec.{vec_capacity}
 use Rattle.osb_job.specs.declared.actions.Action.TheVariants as actions
 use Rattle.osb_job.specs.declared.entries.Event.TheVariants as events
 use Rattle.osb_job.specs.declared.entries.Entry.{Entry}
-use Rattle.osb_machine.specs.States.{State, Allows}
+use Rattle.osb_state.specs.States.{State, Allows}
 use Rattle.osb_machine.proofs.Conditions.{may_fetch}
 use Rattle.osb_machine.proofs.SharedStays.{shared_fetched}
 use Rattle.osb_machine.proofs.shares.Shared.fetch.Goals as goal

@@ -4,8 +4,8 @@ use Rattle.osb_tree.specs.Trees.{Listing, tree_size}
 use Rattle.osb_tree.specs.Chunks.{AreOfATree}
 use Rattle.osb_cache.specs.declared.answers.Stored.{Stored}
 use Rattle.osb_cache.specs.Caches.{Line, stored_of, CanOpen}
-use Rattle.osb_machine.specs.States.{State}
-use Rattle.osb_machine.specs.Kept.{IsEntry}
+use Rattle.osb_state.specs.States.{State}
+use Rattle.osb_state.specs.Kept.{IsEntry}
 use Rattle.osb_machine.proofs.KeptEntries.{weights_within}
 use Rattle.osb_machine.proofs.shares.Shared.finish.Goals as goal
 

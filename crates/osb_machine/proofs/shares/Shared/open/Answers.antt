@@ -6,7 +6,7 @@ use Rattle.osb_recipe.specs.Recipes.{Origin}
 use Rattle.osb_cache.specs.declared.answers.Stored.{Stored}
 use Rattle.osb_board.specs.Boards.{AreLower}
 use Rattle.osb_recipe.specs.declared.plans.Task.{Task as Planned}
-use Rattle.osb_machine.specs.States.{State}
+use Rattle.osb_state.specs.States.{State}
 use Rattle.osb_machine.specs.Owed.{IsShared}
 use Rattle.osb_machine.proofs.OpenedStates.{plan_lower, shared_opened, opened_same}
 use Rattle.osb_machine.proofs.shares.Shared.open.Goals as goal

@@ -1,8 +1,8 @@
 use Rattle.std.proofs.Common.{sym, ap, subst, ◌∙◌, arith}
 use Rattle.osb_job.specs.declared.actions.Action.TheVariants as actions
-use Rattle.osb_machine.specs.States.{State, Allows}
+use Rattle.osb_state.specs.States.{State, Allows}
 use Rattle.osb_machine.proofs.StagedNumbers.{any-staged}
-use Rattle.osb_machine.specs.States.{after}
+use Rattle.osb_state.specs.States.{after}
 use Rattle.osb_machine.proofs.SharedStays.{found_put, due_put, staging_put, place_put, put_after, shared_put}
 use Rattle.osb_machine.proofs.shares.Shared.put.Goals as goal
 

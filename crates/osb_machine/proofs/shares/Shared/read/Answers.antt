@@ -6,7 +6,7 @@ use Rattle.osb_job.specs.declared.entries.Entry.{Entry}
 use Rattle.osb_job.specs.declared.actions.Reply.TheVariants as replies
 use Rattle.osb_tree.specs.Trees.{Listing}
 use Rattle.osb_cache.specs.Caches.{chunks_at}
-use Rattle.osb_machine.specs.States.{State, Allows}
+use Rattle.osb_state.specs.States.{State, Allows}
 use Rattle.std.proofs.lemmas.Option.{get_or_from_slice_get}
 use Rattle.osb_machine.proofs.SharedStays.{shared_read}
 use Rattle.osb_machine.proofs.shares.Shared.read.Goals as goal

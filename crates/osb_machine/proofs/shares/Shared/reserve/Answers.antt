@@ -2,7 +2,7 @@ use Rattle.std.proofs.Common.{◌≡◌, ◌+◌, ◌≤◌, ◌++◌, ◌∷◌
 use Rattle.std.specs.Vec.{vec_capacity}
 use Rattle.osb_job.specs.declared.actions.Action.TheVariants as actions
 use Rattle.osb_job.specs.declared.entries.Entry.{Entry}
-use Rattle.osb_machine.specs.States.{State, Allows}
+use Rattle.osb_state.specs.States.{State, Allows}
 use Rattle.osb_cache.specs.declared.answers.Reserve.{Reserve}
 use Rattle.osb_cache.specs.Caches.{reserve_reply}
 use Rattle.osb_job.specs.Moves.{reserve_event}

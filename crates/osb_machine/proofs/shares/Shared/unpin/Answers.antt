@@ -1,6 +1,6 @@
 use Rattle.std.proofs.Common.{sym, subst, arith}
 use Rattle.osb_job.specs.declared.actions.Action.TheVariants as actions
-use Rattle.osb_machine.specs.States.{State, Allows}
+use Rattle.osb_state.specs.States.{State, Allows}
 use Rattle.osb_machine.proofs.SharedStays.{due_unpin, shared_unpinned}
 use Rattle.osb_machine.proofs.shares.Shared.unpin.Goals as goal
 

@@ -1,5 +1,0 @@
-use Rattle.osb_machine.proofs.JobsKept.{jobs_stay}
-use Rattle.osb_machine.proofs.laws.jobs_stay.Goals as goal
-
-pub returns : goal.returns
-returns c = record { law = jobs_stay }

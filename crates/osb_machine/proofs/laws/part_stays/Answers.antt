@@ -1,5 +1,0 @@
-use Rattle.osb_machine.proofs.OtherParts.{part_stays}
-use Rattle.osb_machine.proofs.laws.part_stays.Goals as goal
-
-pub returns : goal.returns
-returns c = record { law = part_stays }

@@ -1,5 +1,0 @@
-use Rattle.osb_machine.proofs.TrueReplies.{replies_are_true}
-use Rattle.osb_machine.proofs.laws.replies_are_true.Goals as goal
-
-pub returns : goal.returns
-returns c = record { law = replies_are_true }

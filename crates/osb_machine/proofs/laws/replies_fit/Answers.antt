@@ -1,5 +1,0 @@
-use Rattle.osb_machine.proofs.FittingReplies.{replies_fit}
-use Rattle.osb_machine.proofs.laws.replies_fit.Goals as goal
-
-pub returns : goal.returns
-returns c = record { law = replies_fit }

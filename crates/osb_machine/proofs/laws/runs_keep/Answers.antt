@@ -1,5 +1,0 @@
-use Rattle.osb_machine.proofs.TrueRuns.{runs_keep}
-use Rattle.osb_machine.proofs.laws.runs_keep.Goals as goal
-
-pub returns : goal.returns
-returns c = record { law = runs_keep }

@@ -1,5 +1,0 @@
-use Rattle.osb_machine.proofs.TurnSteps.{turns_are_steps}
-use Rattle.osb_machine.proofs.laws.turns_are_steps.Goals as goal
-
-pub returns : goal.returns
-returns c = record { law = turns_are_steps }

@@ -1,5 +1,0 @@
-use Rattle.osb_machine.proofs.ValidMoves.{valid_stays}
-use Rattle.osb_machine.proofs.laws.valid_stays.Goals as goal
-
-pub returns : goal.returns
-returns c = record { law = valid_stays }

@@ -1,0 +1,15 @@
+pub mod States
+pub mod Kept
+pub mod Openings
+pub mod Laws
+pub mod Runs
+pub mod Truth
+pub mod Replies
+pub mod Turns
+pub mod TurnLaws
+pub mod Schedules
+pub mod RunLogs
+pub mod KeptLogs
+pub mod Filling
+pub mod Spent
+pub mod Serial
