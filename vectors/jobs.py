@@ -32,6 +32,7 @@ class Task:
     def __init__(self, keys, marked=(), deps=(), made=None):
         """`made`: what each stage makes of the tree before it, a tree or the words of a fault."""
         self.keys, self.marked, self.deps, self.made = keys, list(marked), list(deps), made
+        self.ran = 0  # how many stages
 
 
 # ---- the rules
@@ -93,6 +94,7 @@ def read(task, key, held):
 def build(task, run, size, held):
     for place in range(run, len(task.keys)):
         key, made = task.keys[place], task.made[place]
+        task.ran += 1
         if isinstance(made, str):
             return f"{place} {made}"
         size = made["size"]
@@ -392,4 +394,5 @@ def main():
     print("\n".join(texts), end="")
 
 
-main()
+if __name__ == "__main__":
+    main()

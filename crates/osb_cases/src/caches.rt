@@ -68,7 +68,8 @@ fn number_of(word: &str, line: usize) -> Result<u64, CaseFault> {
     }
 }
 
-fn limit_of(word: &str, line: usize) -> Result<u64, CaseFault>
+/// A limit of a cache.
+pub fn limit_of(word: &str, line: usize) -> Result<u64, CaseFault>
     ensures { IfOk result (λ limit. limit ≤ 2 ^ 62) }
 {
     let limit = number_of(word, line)?;

@@ -117,6 +117,7 @@ fn takes_block(word: &str) -> bool {
             | "input"
             | "tasks"
             | "script"
+            | "schedule"
             | "content"
             | "options"
             | "due"

@@ -274,15 +274,21 @@ fn action_line(alloc: Global, action: &Action) -> Result<String, CaseFault> {
 
 fn done_line(alloc: Global, task: TaskNo, outcome: &Outcome) -> Result<String, CaseFault> {
     let mut line = format!(in alloc; "done {} ", task.0)?;
-    match outcome {
-        Outcome::Tree(tree) => write!(line, "tree {}", tree.get().size())?,
-        Outcome::Fault(stage, fault) => {
-            let words = fault_words(alloc, fault)?;
-            write!(line, "{stage} {}", words.as_str())?;
-        }
-        Outcome::Blocked => line.push_str("blocked")?,
-        Outcome::NoMemory => line.push_str("no memory")?,
-    }
+    write_outcome(alloc, &mut line, outcome)?;
     line.push('\n')?;
     Ok(line)
+}
+
+/// The size of a tree, the place and words of a fault, or `blocked` or `no memory`.
+pub fn write_outcome(alloc: Global, out: &mut String, outcome: &Outcome) -> Result<(), CaseFault> {
+    match outcome {
+        Outcome::Tree(tree) => write!(out, "tree {}", tree.get().size())?,
+        Outcome::Fault(stage, fault) => {
+            let words = fault_words(alloc, fault)?;
+            write!(out, "{stage} {}", words.as_str())?;
+        }
+        Outcome::Blocked => out.push_str("blocked")?,
+        Outcome::NoMemory => out.push_str("no memory")?,
+    }
+    Ok(())
 }

@@ -14,6 +14,8 @@ pub enum Kind {
     Cache,
     Plan,
     Job,
+    Serial,
+    Schedule,
 }
 
 impl Kind {
@@ -33,6 +35,8 @@ impl Kind {
             "cache" => Some(Kind::Cache),
             "plan" => Some(Kind::Plan),
             "job" => Some(Kind::Job),
+            "serial" => Some(Kind::Serial),
+            "schedule" => Some(Kind::Schedule),
             _ => None,
         }
     }
@@ -60,6 +64,18 @@ impl Kind {
             Kind::Cache => matches!(word, "limit" | "script"),
             Kind::Plan => matches!(word, "words" | "word" | "file" | "build"),
             Kind::Job => matches!(word, "words" | "word" | "file" | "build" | "script"),
+            Kind::Serial => {
+                matches!(
+                    word,
+                    "words" | "word" | "file" | "build" | "limit" | "first"
+                )
+            }
+            Kind::Schedule => {
+                matches!(
+                    word,
+                    "words" | "word" | "file" | "build" | "limit" | "first" | "workers" | "schedule"
+                )
+            }
         }
     }
 }

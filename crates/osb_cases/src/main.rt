@@ -20,6 +20,7 @@ mod plans;
 mod puts;
 mod random;
 mod runs;
+mod schedules;
 mod stages;
 
 use anyhow::{Context, Result, bail};

@@ -4,7 +4,7 @@ use crate::kinds::Kind;
 use crate::marks::marks_answer;
 use crate::mistakes::{CaseFault, Mistake};
 use crate::parts::text_of;
-use crate::{boards, caches, chunks, jobs, plans, puts, runs, stages};
+use crate::{boards, caches, chunks, jobs, plans, puts, runs, schedules, stages};
 use osb_base::NoMemory;
 use osb_pyjson::{PyFault, py_string, py_text};
 use osb_recipe::Plan;
@@ -24,6 +24,7 @@ pub enum Outcome {
     Cache(caches::Replies),
     Plan(Plan),
     Job(jobs::Wanted),
+    Machine(schedules::Left),
 }
 
 /// Makes the call of a case.
@@ -41,6 +42,8 @@ pub fn make_call(alloc: Global, case: &Case) -> Result<Outcome, CaseFault> {
         Kind::Cache => Ok(Outcome::Cache(caches::run_script(alloc, case)?)),
         Kind::Plan => Ok(Outcome::Plan(plans::make_plan(alloc, case)?)),
         Kind::Job => Ok(Outcome::Job(jobs::run_script(alloc, case)?)),
+        Kind::Serial => Ok(Outcome::Machine(schedules::run_alone(alloc, case)?)),
+        Kind::Schedule => Ok(Outcome::Machine(schedules::run_turns(alloc, case)?)),
     }
 }
 
@@ -57,6 +60,7 @@ impl Outcome {
             Outcome::Cache(replies) => replies.section(alloc, due)?,
             Outcome::Plan(plan) => plans::section(alloc, plan, due)?.map(String::into_bytes),
             Outcome::Job(wanted) => wanted.section(alloc, due)?,
+            Outcome::Machine(left) => left.section(alloc, due)?,
         };
         match came {
             Some(bytes) => Ok(bytes),
