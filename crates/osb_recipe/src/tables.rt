@@ -1,4 +1,4 @@
-ghost use Rattle.std.specs.Prelude.{◌≡◌, ◌<◌, ◌≤◌, [], Some, IfOk, OnOk, OnErr, length, slice_get};
+ghost use Rattle.std.specs.Prelude.{◌≡◌, ◌<◌, ◌≤◌, ◌∷◌, ◌++◌, [], Some, IfOk, OnOk, OnErr, length, slice_get};
 ghost use Rattle.osb_recipe.specs.Recipes.{Origin, IsBelow, same_recipe};
 ghost use Rattle.osb_recipe.specs.Interning.{place_in, interned};
 ghost use Rattle.osb_recipe.specs.Tables.{same_bytes, IsTable};
@@ -59,6 +59,29 @@ impl Table {
         ensures number { result ≡ place_in same_bytes self.now.blobs bytes.now }
     {
         place_of_blob(&self.blobs, bytes) as u64
+    }
+
+    /// Adds a blob, which may be equal to one before it.
+    pub fn add_blob(&mut self, bytes: Bytes) -> Result<(), NoMemory>
+        ensures blobs { OnOk result (self.new.blobs ≡ self.old.blobs ++ bytes ∷ []) }
+        ensures recipes { self.new.recipes ≡ self.old.recipes }
+        ensures err { OnErr result (self.new ≡ self.old) }
+    {
+        self.blobs.push(bytes)?;
+        Ok(())
+    }
+
+    /// Adds a recipe, which may be equal to one before it.
+    pub fn add(&mut self, recipe: Recipe) -> Result<(), NoMemory>
+        requires below { IsBelow (length self.old.recipes) (length self.old.blobs) recipe }
+        ensures recipes { OnOk result (self.new.recipes ≡ self.old.recipes ++ recipe ∷ []) }
+        ensures blobs { self.new.blobs ≡ self.old.blobs }
+        ensures err { OnErr result (self.new ≡ self.old) }
+    {
+        // What holds of a recipe is known where a field is read.
+        let _spelled = &recipe.options_text;
+        self.recipes.push(recipe)?;
+        Ok(())
     }
 
     /// The number of the equal blob, or of this one, which is then added.
