@@ -118,6 +118,7 @@ fn takes_block(word: &str) -> bool {
             | "tasks"
             | "script"
             | "schedule"
+            | "bytes"
             | "content"
             | "options"
             | "due"

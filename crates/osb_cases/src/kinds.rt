@@ -16,6 +16,7 @@ pub enum Kind {
     Job,
     Serial,
     Schedule,
+    Store,
 }
 
 impl Kind {
@@ -37,6 +38,7 @@ impl Kind {
             "job" => Some(Kind::Job),
             "serial" => Some(Kind::Serial),
             "schedule" => Some(Kind::Schedule),
+            "store" => Some(Kind::Store),
             _ => None,
         }
     }
@@ -64,6 +66,7 @@ impl Kind {
             Kind::Cache => matches!(word, "limit" | "script"),
             Kind::Plan => matches!(word, "words" | "word" | "file" | "build"),
             Kind::Job => matches!(word, "words" | "word" | "file" | "build" | "script"),
+            Kind::Store => word == "bytes",
             Kind::Serial => {
                 matches!(
                     word,

@@ -22,6 +22,7 @@ mod random;
 mod runs;
 mod schedules;
 mod stages;
+mod stores;
 
 use anyhow::{Context, Result, bail};
 use differences::{Count, Report, run_cases};

@@ -4,7 +4,7 @@ use crate::kinds::Kind;
 use crate::marks::marks_answer;
 use crate::mistakes::{CaseFault, Mistake};
 use crate::parts::text_of;
-use crate::{boards, caches, chunks, jobs, plans, puts, runs, schedules, stages};
+use crate::{boards, caches, chunks, jobs, plans, puts, runs, schedules, stages, stores};
 use osb_base::NoMemory;
 use osb_pyjson::{PyFault, py_string, py_text};
 use osb_recipe::Plan;
@@ -25,6 +25,7 @@ pub enum Outcome {
     Plan(Plan),
     Job(jobs::Wanted),
     Machine(schedules::Left),
+    Store(stores::Given),
 }
 
 /// Makes the call of a case.
@@ -44,6 +45,7 @@ pub fn make_call(alloc: Global, case: &Case) -> Result<Outcome, CaseFault> {
         Kind::Job => Ok(Outcome::Job(jobs::run_script(alloc, case)?)),
         Kind::Serial => Ok(Outcome::Machine(schedules::run_alone(alloc, case)?)),
         Kind::Schedule => Ok(Outcome::Machine(schedules::run_turns(alloc, case)?)),
+        Kind::Store => Ok(Outcome::Store(stores::bytes_given(alloc, case)?)),
     }
 }
 
@@ -61,6 +63,7 @@ impl Outcome {
             Outcome::Plan(plan) => plans::section(alloc, plan, due)?.map(String::into_bytes),
             Outcome::Job(wanted) => wanted.section(alloc, due)?,
             Outcome::Machine(left) => left.section(alloc, due)?,
+            Outcome::Store(given) => given.section(alloc, due)?,
         };
         match came {
             Some(bytes) => Ok(bytes),

@@ -1,0 +1,13 @@
+pub mod Fields
+pub mod Texts
+pub mod Rules
+pub mod Refusals
+pub mod Places
+pub mod Reading
+pub mod Steps
+pub mod Bytes
+pub mod Recipes
+pub mod Entries
+pub mod Lists
+pub mod Sealing
+pub mod Laws
