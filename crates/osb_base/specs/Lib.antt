@@ -5,3 +5,4 @@ pub mod Shelves
 pub mod Fetchers
 pub mod Exports
 pub mod Sinks
+pub mod Keepers
