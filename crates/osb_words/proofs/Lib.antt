@@ -1,0 +1,4 @@
+pub mod Builds
+pub mod Flags
+pub mod Numbers
+pub mod Parts
