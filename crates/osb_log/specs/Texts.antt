@@ -7,7 +7,6 @@ use Rattle.osb_job.specs.declared.entries.Event.{Event}
 use Rattle.osb_job.specs.declared.entries.Event.TheVariants as events
 use Rattle.osb_job.specs.declared.entries.Entry.{Entry}
 use Rattle.osb_state.specs.declared.opened.Opened.{Opened}
-use Rattle.osb_log.specs.Fits.{LogFits}
 
 abbrev pub word_text : Word → List ℕ
 word_text words.Tree = codes "tree"
@@ -48,7 +47,3 @@ opened_line opened = codes "open " ++ (decimal opened.kept ++ (codes " " ++ (dec
 
 abbrev pub log_text : Opened → List Entry → List ℕ
 log_text opened log = opened_line opened ++ entry_lines 1 log
-
--- logs with one text are one log, where their numbers have at most 64 bits
-abbrev pub TextsTellLogs : Type 0
-TextsTellLogs = (opened opened' : Opened) (log log' : List Entry) → LogFits opened log → LogFits opened' log' → log_text opened log ≡ log_text opened' log' → (opened ≡ opened') × (log ≡ log')
