@@ -1,10 +1,10 @@
 //! Trees exported as folders and files of the system.
-ghost use Rattle.std.specs.Prelude.{◌≡◌, ◌++◌, codes, None, Err, string_bytes, IfOk};
-ghost use Rattle.osb_base.specs.Faults.{HasCause};
+ghost use Rattle.std.specs.Prelude.{◌≡◌, None};
 
-use crate::stops::write_stop;
-use crate::writings::write_whole;
-use osb_base::{Exporter, NoMemory, WriteStop};
+use crate::places::place_of;
+use crate::stops::{count_write, write_stop};
+use crate::writings::write_file;
+use osb_base::{Exporter, WriteStop};
 use std::alloc::Global;
 use std::fs;
 use std::rt::Files;
@@ -33,18 +33,6 @@ impl<'a, R: Files> FolderExporter<'a, R> {
     {
         self.faults
     }
-
-    /// Counts a fault where an operation ended in one.
-    fn count(&mut self, done: Result<(), WriteStop>) -> Result<(), WriteStop>
-        ensures same { result ≡ done }
-        ensures cause { HasCause WriteStop.Failed self.old.faults self.new.faults result }
-        ensures unmade { result ≡ Err WriteStop.NoMemory → self.new.faults ≡ self.old.faults }
-    {
-        if matches!(done, Err(WriteStop::Failed)) {
-            self.faults = self.faults.saturating_add(1);
-        }
-        done
-    }
 }
 
 impl<R: Files> Exporter for FolderExporter<'_, R> {
@@ -62,7 +50,7 @@ impl<R: Files> Exporter for FolderExporter<'_, R> {
     ) -> Result<(), WriteStop> {
         let place = place_of(alloc, self.root, path)?;
         let made = make_folder(&self.files, place.as_str());
-        self.count(made)
+        count_write(&mut self.faults, made)
     }
 
     fn file(
@@ -76,7 +64,7 @@ impl<R: Files> Exporter for FolderExporter<'_, R> {
     ) -> Result<(), WriteStop> {
         let place = place_of(alloc, self.root, path)?;
         let written = write_file(&self.files, place.as_str(), bytes);
-        self.count(written)
+        count_write(&mut self.faults, written)
     }
 
     fn link(
@@ -94,27 +82,13 @@ impl<R: Files> Exporter for FolderExporter<'_, R> {
         let folder = place_of(alloc, self.root, folder)?;
         let place = place_of(alloc, folder.as_str(), "list")?;
         let written = write_file(&self.files, place.as_str(), list);
-        self.count(written)
+        count_write(&mut self.faults, written)
     }
-}
-
-/// Where a path stands under a folder.
-fn place_of(alloc: Global, folder: &str, path: &str) -> Result<String, NoMemory>
-    ensures { IfOk result (λ place. string_bytes place ≡ folder.now ++ (codes "/" ++ path.now)) }
-{
-    format!(in alloc; "{folder}/{path}")
 }
 
 fn make_folder(files: &impl Files, place: &str) -> Result<(), WriteStop> {
     match fs::create_dir_all(files, place) {
         Ok(()) => Ok(()),
-        Err(error) => Err(write_stop(&error)),
-    }
-}
-
-fn write_file(files: &impl Files, place: &str, bytes: &[u8]) -> Result<(), WriteStop> {
-    match fs::create(files, place) {
-        Ok(mut file) => write_whole(&mut file, bytes),
         Err(error) => Err(write_stop(&error)),
     }
 }

@@ -3,7 +3,10 @@
 #![tactic(auto)]
 
 mod folder;
+mod keeper_file;
+mod mirror_folder;
 mod output;
+mod places;
 mod readings;
 mod shelf_files;
 mod stops;
@@ -12,6 +15,8 @@ mod tests;
 mod writings;
 
 pub use folder::FolderExporter;
+pub use keeper_file::FileKeeper;
+pub use mirror_folder::FolderMirror;
 pub use output::Output;
 pub use shelf_files::FileShelf;
 

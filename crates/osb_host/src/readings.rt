@@ -24,9 +24,47 @@ pub(crate) fn read_opened<F: Read + Drop>(
     ensures front { IfOk opened (λ file. IfOk result (λ found. IfSome (F.remaining file) (λ bytes. found ≡ Some (cut bytes)))) }
     ensures short { IsCut result }
 {
+    match found(opened)? {
+        Some(mut file) => Ok(Some(read_front(alloc, &mut file)?)),
+        None => Ok(None),
+    }
+}
+
+/// What a keeper loads where this came of opening its file.
+pub(crate) fn load_opened<F: Read + Drop>(
+    alloc: Global,
+    opened: io::Result<F>,
+) -> Result<Option<Bytes>, ReadStop>
+    ensures absent { IsErrAnd opened (λ e. error_kind e ≡ ErrorKind.NotFound) → result ≡ Ok None }
+    ensures present { result ≡ Ok None → IsErrAnd opened (λ e. error_kind e ≡ ErrorKind.NotFound) }
+    ensures whole { IfOk opened (λ file. IfOk result (λ loaded. IfSome (F.remaining file) (λ bytes. loaded ≡ Some bytes))) }
+{
+    match found(opened)? {
+        Some(mut file) => Ok(Some(read_all(alloc, &mut file)?)),
+        None => Ok(None),
+    }
+}
+
+/// An opened file, or none where no file has the name.
+fn found<F: Drop>(opened: io::Result<F>) -> Result<Option<F>, ReadStop>
+    ensures opened { IfOk opened (λ file. result ≡ Ok (Some file)) }
+    ensures absent { IsErrAnd opened (λ e. error_kind e ≡ ErrorKind.NotFound) → result ≡ Ok None }
+    ensures present { result ≡ Ok None → IsErrAnd opened (λ e. error_kind e ≡ ErrorKind.NotFound) }
+    ensures open { IfOk result (λ found. IfSome found (λ file. opened ≡ Ok file)) }
+{
     match opened {
-        Ok(mut file) => Ok(Some(read_front(alloc, &mut file)?)),
+        Ok(file) => Ok(Some(file)),
         Err(error) if error.kind() == ErrorKind::NotFound => Ok(None),
+        Err(error) => Err(read_stop(&error)),
+    }
+}
+
+fn read_all<F: Read>(alloc: Global, file: &mut F) -> Result<Bytes, ReadStop>
+    ensures whole { IfOk result (λ all. IfSome (F.remaining file.old) (λ bytes. all ≡ bytes)) }
+{
+    let mut all = Vec::new(alloc);
+    match file.read_to_end(&mut all) {
+        Ok(_) => Ok(Bytes::new(all)),
         Err(error) => Err(read_stop(&error)),
     }
 }

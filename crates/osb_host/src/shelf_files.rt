@@ -3,6 +3,7 @@ ghost use Rattle.std.specs.Prelude.{◌≡◌, None};
 ghost use Rattle.osb_base.specs.Faults.{HasCause};
 
 use crate::readings::read_opened;
+use crate::stops::count_read;
 use osb_base::{Bytes, ReadStop, Shelf};
 use std::alloc::Global;
 use std::fs;
@@ -39,9 +40,6 @@ impl<R: Files> Shelf for FileShelf<R> {
             return Ok(None);
         }
         let found = read_opened(alloc, fs::open(&self.files, name));
-        if matches!(found, Err(ReadStop::Failed)) {
-            self.faults = self.faults.saturating_add(1);
-        }
-        found
+        count_read(&mut self.faults, found)
     }
 }

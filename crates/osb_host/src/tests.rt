@@ -1,7 +1,11 @@
 use crate::folder::FolderExporter;
+use crate::keeper_file::FileKeeper;
+use crate::mirror_folder::FolderMirror;
 use crate::output::Output;
 use crate::shelf_files::FileShelf;
-use osb_base::{Exporter, ReadStop, Shelf, Sink, WriteStop};
+use osb_base::{
+    Digest, Exporter, Fetched, Fetcher, Keeper, ReadStop, Shelf, Sink, Text, WriteStop,
+};
 use std::alloc::AllocError;
 use std::test::Fail;
 use std::{env, fs, io, process};
@@ -91,4 +95,60 @@ fn output_takes_pieces(rt: HostRuntime) {
     for piece in ["a piece\n", ""] {
         assert_eq!(rt; out.write(piece.as_bytes()), Ok(piece.len()), "{piece:?}");
     }
+}
+
+#[test]
+fn keeper_replaces_its_file(rt: HostRuntime) -> Result<(), Fail> {
+    let alloc = rt.alloc();
+    let folder = new_folder(&rt, "keeper")?;
+    let name = within(&rt, &folder, "store")?;
+    let mut keeper = FileKeeper::new(rt, name.as_str());
+    assert!(rt; matches!(keeper.load(alloc), Ok(None)));
+    for text in ["a long text", "text", ""] {
+        assert_eq!(rt; keeper.save(alloc, text.as_bytes()), Ok(()));
+        match keeper.load(alloc) {
+            Ok(Some(bytes)) => assert_eq!(rt; bytes.as_slice(), text.as_bytes()),
+            _ => panic!(rt; "{text}"),
+        }
+    }
+    let second = within(&rt, &folder, "store.new")?;
+    assert!(rt; !fs::exists(&rt, second.as_str())?);
+    assert_eq!(rt; keeper.faults(), 0);
+    // A folder has the second name, and then the first: what was saved stays.
+    fs::create_dir(&rt, second.as_str())?;
+    assert_eq!(rt; keeper.save(alloc, b"lost"), Err(WriteStop::Failed));
+    assert!(rt; matches!(keeper.load(alloc), Ok(Some(bytes)) if bytes.as_slice().is_empty()));
+    let mut blocked = FileKeeper::new(rt, folder.as_str());
+    assert!(rt; matches!(blocked.load(alloc), Err(ReadStop::Failed)));
+    assert_eq!(rt; blocked.save(alloc, b"lost"), Err(WriteStop::Failed));
+    assert_eq!(rt; (keeper.faults(), blocked.faults()), (1, 2));
+    fs::remove_dir_all(&rt, folder.as_str())?;
+    Ok(())
+}
+
+#[test]
+fn mirror_gives_items_of_its_folder(rt: HostRuntime) -> Result<(), Fail> {
+    let alloc = rt.alloc();
+    let folder = new_folder(&rt, "mirror")?;
+    let text = "sha256:e3b0c44298fc1c149afbf4c8996fb92427ae41e4649b934ca495991b7852b855";
+    let Ok(digest) = Digest::read(text) else {
+        panic!(rt; "{text}")
+    };
+    let item = within(&rt, &folder, text)?;
+    let absent = within(&rt, &folder, "absent")?;
+    let mut mirror = FolderMirror::new(rt, Text::new(alloc, folder.as_str())?);
+    assert!(rt; matches!(mirror.fetch(alloc, &digest), Ok(Fetched::Absent)));
+    fs::write(&rt, item.as_str(), "an item")?;
+    match mirror.fetch(alloc, &digest) {
+        Ok(Fetched::Bytes(bytes)) => assert_eq!(rt; bytes.as_slice(), "an item".as_bytes()),
+        _ => panic!(rt; "{text}"),
+    }
+    let mut gone = FolderMirror::new(rt, Text::new(alloc, absent.as_str())?);
+    fs::create_dir(&rt, absent.as_str())?;
+    assert!(rt; matches!(gone.fetch(alloc, &digest), Ok(Fetched::Gone)));
+    let mut file = FolderMirror::new(rt, Text::new(alloc, item.as_str())?);
+    assert!(rt; matches!(file.fetch(alloc, &digest), Err(ReadStop::Failed)));
+    assert_eq!(rt; (mirror.faults(), gone.faults(), file.faults()), (0, 0, 1));
+    fs::remove_dir_all(&rt, folder.as_str())?;
+    Ok(())
 }

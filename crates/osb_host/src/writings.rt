@@ -7,7 +7,17 @@ ghost use Rattle.std.specs.IoError.{error_kind};
 use crate::MOST_TURNS;
 use crate::stops::write_stop;
 use osb_base::{Failed, WriteStop};
+use std::fs;
 use std::io::{ErrorKind, Write};
+use std::rt::Files;
+
+/// Writes a file with these bytes alone.
+pub(crate) fn write_file(files: &impl Files, place: &str, bytes: &[u8]) -> Result<(), WriteStop> {
+    match fs::create(files, place) {
+        Ok(mut file) => write_whole(&mut file, bytes),
+        Err(error) => Err(write_stop(&error)),
+    }
+}
 
 pub(crate) fn write_whole<W: Write>(out: &mut W, bytes: &[u8]) -> Result<(), WriteStop>
     ensures { OnOk result (Appends (W.contents out.old) (W.contents out.new) bytes.now) }
