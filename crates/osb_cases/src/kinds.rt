@@ -17,6 +17,7 @@ pub enum Kind {
     Serial,
     Schedule,
     Store,
+    Settings,
 }
 
 impl Kind {
@@ -39,6 +40,7 @@ impl Kind {
             "serial" => Some(Kind::Serial),
             "schedule" => Some(Kind::Schedule),
             "store" => Some(Kind::Store),
+            "settings" => Some(Kind::Settings),
             _ => None,
         }
     }
@@ -67,6 +69,7 @@ impl Kind {
             Kind::Plan => matches!(word, "words" | "word" | "file" | "build"),
             Kind::Job => matches!(word, "words" | "word" | "file" | "build" | "script"),
             Kind::Store => word == "bytes",
+            Kind::Settings => matches!(word, "words" | "word"),
             Kind::Serial => {
                 matches!(
                     word,

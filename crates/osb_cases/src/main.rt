@@ -21,6 +21,7 @@ mod puts;
 mod random;
 mod runs;
 mod schedules;
+mod settings;
 mod stages;
 mod stores;
 

@@ -4,6 +4,7 @@ use crate::kinds::Kind;
 use crate::marks::marks_answer;
 use crate::mistakes::{CaseFault, Mistake};
 use crate::parts::text_of;
+use crate::settings::settings_answer;
 use crate::{boards, caches, chunks, jobs, plans, puts, runs, schedules, stages, stores};
 use osb_base::NoMemory;
 use osb_pyjson::{PyFault, py_string, py_text};
@@ -33,6 +34,7 @@ pub fn make_call(alloc: Global, case: &Case) -> Result<Outcome, CaseFault> {
     match case.kind {
         Kind::RunSerial | Kind::Inspect => Ok(Outcome::Run(runs::run_case(alloc, case)?)),
         Kind::Marks => Ok(Outcome::Answer(marks_answer(alloc, case)?)),
+        Kind::Settings => Ok(Outcome::Answer(settings_answer(alloc, case)?)),
         Kind::Path => Ok(Outcome::Answer(path_answer(alloc, case)?)),
         Kind::Python => Ok(Outcome::Answer(python_answer(alloc, case)?)),
         Kind::PythonString => Ok(Outcome::Answer(python_string_answer(alloc, case)?)),
