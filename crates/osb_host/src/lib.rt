@@ -16,8 +16,9 @@ mod writings;
 
 pub use folder::FolderExporter;
 pub use keeper_file::FileKeeper;
-pub use mirror_folder::FolderMirror;
+pub use mirror_folder::{FolderMirror, item_of};
 pub use output::Output;
+pub use readings::{load_opened, read_opened};
 pub use shelf_files::FileShelf;
 
 /// How often a file is read or written at most until it is given up.

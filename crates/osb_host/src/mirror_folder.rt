@@ -1,5 +1,5 @@
 //! Items as files of a folder.
-ghost use Rattle.std.specs.Prelude.{◌≡◌, ◌≢◌, None, Some, Ok, IfOk, IfSome, IsErrAnd};
+ghost use Rattle.std.specs.Prelude.{◌≡◌, ◌≢◌, None, Some, Ok, IfOk, IfSome, IsErrAnd, IsTrue};
 ghost use Rattle.std.specs.IoError.{error_kind};
 ghost use Rattle.osb_base.specs.Shelves.{cut};
 ghost use Rattle.osb_base.specs.Fetchers.{IsShort};
@@ -26,7 +26,17 @@ impl<R: Files + Drop> FolderMirror<R> {
     pub fn new(files: R, folder: Text) -> Self
         ensures sound { (⟦<FolderMirror<R> as Fetcher>⟧.fetcher_state result).faults ≡ 0 }
     {
-        let is_gone = match fs::metadata(&files, folder.as_str()) {
+        let found = fs::metadata(&files, folder.as_str());
+        FolderMirror::of_found(files, folder, &found)
+    }
+
+    /// The mirror of a folder where this was found under its name.
+    pub fn of_found(files: R, folder: Text, found: &io::Result<fs::Metadata>) -> Self
+        ensures sound { (⟦<FolderMirror<R> as Fetcher>⟧.fetcher_state result).faults ≡ 0 }
+        ensures gone { IsTrue (⟦<FolderMirror<R> as Fetcher>⟧.fetcher_state result).is_gone → IsErrAnd found.now (λ e. error_kind e ≡ ErrorKind.NotFound) }
+        ensures absent { IsErrAnd found.now (λ e. error_kind e ≡ ErrorKind.NotFound) → IsTrue (⟦<FolderMirror<R> as Fetcher>⟧.fetcher_state result).is_gone }
+    {
+        let is_gone = match found {
             Ok(_) => false,
             Err(error) => error.kind() == ErrorKind::NotFound,
         };
@@ -60,7 +70,7 @@ impl<R: Files + Drop> Fetcher for FolderMirror<R> {
 }
 
 /// What is given of an item where this came of opening its file.
-fn item_of<F: Read + Drop>(alloc: Global, opened: io::Result<F>) -> Result<Fetched, ReadStop>
+pub fn item_of<F: Read + Drop>(alloc: Global, opened: io::Result<F>) -> Result<Fetched, ReadStop>
     ensures absent { IsErrAnd opened (λ e. error_kind e ≡ ErrorKind.NotFound) → result ≡ Ok Fetched.Absent }
     ensures present { result ≡ Ok Fetched.Absent → IsErrAnd opened (λ e. error_kind e ≡ ErrorKind.NotFound) }
     ensures given { IfOk opened (λ file. IfOk result (λ fetched. IfSome (F.remaining file) (λ bytes. fetched ≡ Fetched.Bytes (cut bytes)))) }

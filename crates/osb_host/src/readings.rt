@@ -15,7 +15,7 @@ use std::io::{ErrorKind, Read};
 const CHUNK: usize = 65_536;
 
 /// What a shelf answers where this came of opening a file.
-pub(crate) fn read_opened<F: Read + Drop>(
+pub fn read_opened<F: Read + Drop>(
     alloc: Global,
     opened: io::Result<F>,
 ) -> Result<Option<Bytes>, ReadStop>
@@ -31,7 +31,7 @@ pub(crate) fn read_opened<F: Read + Drop>(
 }
 
 /// What a keeper loads where this came of opening its file.
-pub(crate) fn load_opened<F: Read + Drop>(
+pub fn load_opened<F: Read + Drop>(
     alloc: Global,
     opened: io::Result<F>,
 ) -> Result<Option<Bytes>, ReadStop>
