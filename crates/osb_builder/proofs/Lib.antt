@@ -1,0 +1,3 @@
+pub mod StoreEntries
+pub mod TrueStores
+pub mod MachineRuns
