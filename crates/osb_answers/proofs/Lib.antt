@@ -1,0 +1,2 @@
+pub mod ManyExports
+pub mod Texts
