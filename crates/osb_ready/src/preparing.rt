@@ -23,14 +23,14 @@ use std::alloc::Global;
 
 /// The build of a manifest by what a shelf gave under its name, with the items that its exports need, which are had from
 /// the manifest and the fetchers. Of these, those that are gone may leave the list.
-pub fn prepare(
+pub fn prepare<F: Fetcher>(
     alloc: Global,
     settings: &Settings,
     given: Result<Option<Bytes>, ReadStop>,
-    fetchers: &mut Vec<Box<dyn Fetcher>>,
+    fetchers: &mut Vec<F>,
 ) -> Result<ReadyBuild, Unbuilt>
-    ensures prepared { IsPrepared settings.now given (map (λ b. fetcher_state b) fetchers.old.items) (map (λ b. fetcher_state b) fetchers.new.items) result }
-    ensures left { IsThinned (map (λ b. fetcher_state b) fetchers.old.items) (map (λ b. fetcher_state b) fetchers.new.items) }
+    ensures prepared { IsPrepared settings.now given (map F.fetcher_state fetchers.old.items) (map F.fetcher_state fetchers.new.items) result }
+    ensures left { IsThinned (map F.fetcher_state fetchers.old.items) (map F.fetcher_state fetchers.new.items) }
 {
     match given {
         Ok(found) => found_build(alloc, settings, found, fetchers),
@@ -47,14 +47,14 @@ fn stopped(stop: ReadStop) -> Unbuilt
     }
 }
 
-fn found_build(
+fn found_build<F: Fetcher>(
     alloc: Global,
     settings: &Settings,
     found: Option<Bytes>,
-    fetchers: &mut Vec<Box<dyn Fetcher>>,
+    fetchers: &mut Vec<F>,
 ) -> Result<ReadyBuild, Unbuilt>
-    ensures prepared { IsPrepared settings.now (Ok found) (map (λ b. fetcher_state b) fetchers.old.items) (map (λ b. fetcher_state b) fetchers.new.items) result }
-    ensures left { IsThinned (map (λ b. fetcher_state b) fetchers.old.items) (map (λ b. fetcher_state b) fetchers.new.items) }
+    ensures prepared { IsPrepared settings.now (Ok found) (map F.fetcher_state fetchers.old.items) (map F.fetcher_state fetchers.new.items) result }
+    ensures left { IsThinned (map F.fetcher_state fetchers.old.items) (map F.fetcher_state fetchers.new.items) }
 {
     let Some(bytes) = found else {
         return Err(Unbuilt::Absent);
@@ -75,15 +75,15 @@ fn refused(refusal: Refusal) -> Unbuilt
     }
 }
 
-fn manifest_build(
+fn manifest_build<F: Fetcher>(
     alloc: Global,
     settings: &Settings,
     manifest: Manifest,
-    fetchers: &mut Vec<Box<dyn Fetcher>>,
+    fetchers: &mut Vec<F>,
 ) -> Result<ReadyBuild, Unbuilt>
     requires formed { IsWellFormed manifest }
-    ensures readied { IsReadied (asked_of manifest (needed manifest settings.now.exports)) (needed_ready settings.now manifest (needed manifest settings.now.exports)) (map (λ b. fetcher_state b) fetchers.old.items) (map (λ b. fetcher_state b) fetchers.new.items) result }
-    ensures left { IsThinned (map (λ b. fetcher_state b) fetchers.old.items) (map (λ b. fetcher_state b) fetchers.new.items) }
+    ensures readied { IsReadied (asked_of manifest (needed manifest settings.now.exports)) (needed_ready settings.now manifest (needed manifest settings.now.exports)) (map F.fetcher_state fetchers.old.items) (map F.fetcher_state fetchers.new.items) result }
+    ensures left { IsThinned (map F.fetcher_state fetchers.old.items) (map F.fetcher_state fetchers.new.items) }
 {
     match needed(alloc, &manifest, settings.exports.as_slice()) {
         Ok(places) => needed_build(alloc, settings, manifest, places, fetchers),
@@ -102,17 +102,17 @@ fn lacking(lacks: NoSuchExport) -> Unbuilt
 }
 
 /// Gathers what the pipelines at these places use.
-fn needed_build(
+fn needed_build<F: Fetcher>(
     alloc: Global,
     settings: &Settings,
     manifest: Manifest,
     places: List<usize>,
-    fetchers: &mut Vec<Box<dyn Fetcher>>,
+    fetchers: &mut Vec<F>,
 ) -> Result<ReadyBuild, Unbuilt>
     requires formed { IsWellFormed manifest }
     requires needed { places ≡ needed_places manifest settings.now.exports }
-    ensures readied { IsReadied (asked_of manifest (Ok places)) (gathered_ready settings.now manifest places) (map (λ b. fetcher_state b) fetchers.old.items) (map (λ b. fetcher_state b) fetchers.new.items) result }
-    ensures left { IsThinned (map (λ b. fetcher_state b) fetchers.old.items) (map (λ b. fetcher_state b) fetchers.new.items) }
+    ensures readied { IsReadied (asked_of manifest (Ok places)) (gathered_ready settings.now manifest places) (map F.fetcher_state fetchers.old.items) (map F.fetcher_state fetchers.new.items) result }
+    ensures left { IsThinned (map F.fetcher_state fetchers.old.items) (map F.fetcher_state fetchers.new.items) }
 {
     let Ok(digests) = wanted(alloc, &manifest, places.as_slice()) else {
         return Err(Unbuilt::NoMemory);
