@@ -109,6 +109,7 @@ fn takes_block(word: &str) -> bool {
         word,
         "file"
             | "mirror"
+            | "kept"
             | "part"
             | "text"
             | "value"

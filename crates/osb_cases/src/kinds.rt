@@ -52,12 +52,8 @@ impl Kind {
 
     fn is_given(self, word: &str) -> bool {
         match self {
-            Kind::RunSerial | Kind::Inspect => {
-                matches!(
-                    word,
-                    "words" | "word" | "file" | "mirror" | "fail" | "room" | "most"
-                )
-            }
+            Kind::RunSerial => is_of_a_run(word) || matches!(word, "kept" | "before"),
+            Kind::Inspect => is_of_a_run(word),
             Kind::Path | Kind::PythonString => word == "text",
             Kind::Python => word == "value",
             Kind::Marks => matches!(word, "value" | "words" | "word"),
@@ -84,4 +80,11 @@ impl Kind {
             }
         }
     }
+}
+
+fn is_of_a_run(word: &str) -> bool {
+    matches!(
+        word,
+        "words" | "word" | "file" | "mirror" | "fail" | "room" | "most"
+    )
 }

@@ -5,16 +5,16 @@ use crate::cases::Case;
 use crate::entries::{Entry, first_word};
 use crate::mistakes::{CaseFault, Mistake};
 use crate::parts::part_bytes;
-use crate::runs::failing;
+use crate::runs::{Turn, failing};
 use osb_base::{Bytes, Digest, MemFetcher, find_item};
 use std::alloc::Global;
 
 /// The mirrors of a case, in the order of their lines.
-pub fn mirrors(alloc: Global, case: &Case) -> Result<Vec<MemFetcher>, CaseFault> {
+pub fn mirrors(alloc: Global, case: &Case, turn: Turn) -> Result<Vec<MemFetcher>, CaseFault> {
     let mut mirrors = Vec::new(alloc);
     for entry in case.template.iter().chain(case.own.iter()) {
         if entry.word.as_str() == "mirror" {
-            mirrors.push(mirror(alloc, case, entry)?)?;
+            mirrors.push(mirror(alloc, case, turn, entry)?)?;
         }
     }
     Ok(mirrors)
@@ -25,9 +25,9 @@ pub fn is_mirror(case: &Case, name: &str) -> bool {
     case.find("mirror", name).is_some()
 }
 
-fn mirror(alloc: Global, case: &Case, entry: &Entry) -> Result<MemFetcher, CaseFault> {
+fn mirror(alloc: Global, case: &Case, turn: Turn, entry: &Entry) -> Result<MemFetcher, CaseFault> {
     let name = entry.name.as_str();
-    if matches!(name, "" | "shelf" | "exporter" | "sink") {
+    if matches!(name, "" | "shelf" | "keeper" | "exporter" | "sink") {
         return Err(Mistake::NoMirrorName.at(entry.line));
     }
     if !entry.value.is_empty() {
@@ -35,7 +35,8 @@ fn mirror(alloc: Global, case: &Case, entry: &Entry) -> Result<MemFetcher, CaseF
     }
     let is_gone = entry.block.iter().any(|line| line.as_str() == "gone");
     let items = items(alloc, entry)?;
-    Ok(MemFetcher::new(is_gone, items, failing(alloc, case, name)?))
+    let failing = failing(alloc, case, turn, name)?;
+    Ok(MemFetcher::new(is_gone, items, failing))
 }
 
 /// The items of a mirror, whose digests differ.

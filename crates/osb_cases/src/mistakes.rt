@@ -52,6 +52,8 @@ pub enum Mistake {
     NoBuild,
     #[error("this is no object whose calls can fail")]
     UnknownObject,
+    #[error("the run before leaves no store")]
+    NothingKept,
     #[error("a mirror has no name, or that of another object")]
     NoMirrorName,
     #[error("a mirror is given neither `gone` nor an item")]

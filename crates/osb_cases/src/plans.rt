@@ -8,12 +8,12 @@ use crate::entries::Entry;
 use crate::marks::checkpoints;
 use crate::mistakes::{CaseFault, Mistake};
 use crate::parts::bytes_of;
-use osb_base::{NoMemory, Text};
-use osb_ident::Checkpoint;
+use osb_base::{Bytes, List, NoMemory, SureFetcher, Text};
 use osb_plan::{Build, plan};
+use osb_ready::{Unbuilt, prepare};
 use osb_recipe::{Plan, Table};
-use osb_top::own_build;
-use std::alloc::Global;
+use osb_words::Settings;
+use std::alloc::{AllocError, Global};
 use std::fmt::Write;
 
 /// The plan of a case's builds.
@@ -27,33 +27,51 @@ pub fn make_plan(alloc: Global, case: &Case) -> Result<Plan, CaseFault>
 fn builds(alloc: Global, case: &Case) -> Result<Vec<Build>, CaseFault>
     ensures ready { IfOk result (λ builds. All IsReady builds.items) }
 {
-    let checkpoints = checkpoints(alloc, case)?;
     let mut builds = Vec::new(alloc);
     for entry in case.template.iter().chain(case.own.iter()) {
         if entry.word.as_str() == "build" {
-            builds.push(build(alloc, case, entry, &checkpoints)?)?;
+            builds.push(build(alloc, case, entry)?)?;
         }
     }
     Ok(builds)
 }
 
-fn build(
-    alloc: Global,
-    case: &Case,
-    entry: &Entry,
-    checkpoints: &[Checkpoint],
-) -> Result<Build, CaseFault>
+/// The build of a manifest that has the items itself.
+fn build(alloc: Global, case: &Case, entry: &Entry) -> Result<Build, CaseFault>
     ensures ready { IfOk result IsReady }
 {
     let Some(file) = case.find("file", entry.name.as_str()) else {
         return Err(Mistake::NotGiven.at(entry.line));
     };
-    let bytes = bytes_of(alloc, case, file)?;
-    let names = names(alloc, entry.value.as_str())?;
-    match own_build(alloc, &bytes, &names, checkpoints)? {
-        Some(build) => Ok(build),
-        None => Err(Mistake::NoBuild.at(entry.line)),
+    let bytes = Bytes::new(bytes_of(alloc, case, file)?);
+    let settings = settings_of(alloc, case, entry)?;
+    let mut fetchers = Vec::<SureFetcher>::new(alloc);
+    match prepare(alloc, &settings, Ok(Some(bytes)), &mut fetchers) {
+        Ok(ready) => Ok(ready.into_build()),
+        Err(unbuilt) => Err(fault_of(&unbuilt, entry.line)),
     }
+}
+
+fn fault_of(unbuilt: &Unbuilt, line: usize) -> CaseFault {
+    match unbuilt {
+        Unbuilt::NoMemory => CaseFault::NoMemory(AllocError),
+        _ => Mistake::NoBuild.at(line),
+    }
+}
+
+/// The settings of a build, of which its exports and checkpoints count.
+fn settings_of(alloc: Global, case: &Case, entry: &Entry) -> Result<Settings, NoMemory> {
+    Ok(Settings {
+        store: None,
+        output: Text::new(alloc, "")?,
+        limit: 0,
+        workers: 1,
+        exports: List::new(names(alloc, entry.value.as_str())?),
+        checkpoints: List::new(checkpoints(alloc, case)?),
+        mirrors: List::new(Vec::new(alloc)),
+        log: false,
+        manifests: List::new(Vec::new(alloc)),
+    })
 }
 
 fn names(alloc: Global, text: &str) -> Result<Vec<Text>, NoMemory> {

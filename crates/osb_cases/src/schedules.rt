@@ -70,21 +70,12 @@ impl Left {
                 let text = log_text(alloc, &self.finished.opened, log)?;
                 return Ok(Some(Vec::from_slice(alloc, text.as_slice())?));
             }
-            ("entries", _) => self.entry_lines(alloc)?,
+            ("entries", _) => stored_lines(alloc, self.finished.entries.as_slice())?,
             ("outcomes", _) => self.outcome_lines(alloc)?,
             ("counted", Some(bytes)) => format!(in alloc; "{bytes}")?,
             _ => return Ok(None),
         };
         Ok(Some(text.into_bytes()))
-    }
-
-    /// The key and the size of each entry, first the one that was used first.
-    fn entry_lines(&self, alloc: Global) -> Result<String, NoMemory> {
-        let mut lines = String::new(alloc);
-        for stored in self.finished.entries.as_slice() {
-            write!(lines, "{} {}\n", stored.key.0, weight_of(stored))?;
-        }
-        Ok(lines)
     }
 
     fn outcome_lines(&self, alloc: Global) -> Result<String, CaseFault> {
@@ -95,6 +86,15 @@ impl Left {
         }
         Ok(lines)
     }
+}
+
+/// The key and the size of each entry, first the one that was used first.
+pub fn stored_lines(alloc: Global, entries: &[Stored<Chunk>]) -> Result<String, NoMemory> {
+    let mut lines = String::new(alloc);
+    for stored in entries {
+        write!(lines, "{} {}\n", stored.key.0, weight_of(stored))?;
+    }
+    Ok(lines)
 }
 
 /// The bytes of an entry's chunks together.

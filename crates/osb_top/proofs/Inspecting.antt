@@ -4,12 +4,13 @@ use Rattle.osb_base.specs.Shelves.{file_of, cut}
 use Rattle.osb_manifest.specs.Manifests.{manifest_of}
 use Rattle.osb_manifest.specs.declared.manifests.Manifest.{Manifest}
 use Rattle.osb_manifest.specs.declared.manifests.Refusal.{Refusal}
-use Rattle.osb_top.specs.Runs.{ShelfSeen, SinkSeen, MayBeUnbuilt, IsWritten, Ends}
+use Rattle.osb_top.specs.Seen.{ShelfSeen, SinkSeen}
+use Rattle.osb_top.specs.Writing.{IsWritten}
 use Rattle.osb_top.specs.Inspects.{read_due, inspect_due, inspect_out, inspect_status, IsInspected, Inspects}
-use Rattle.osb_top.specs.Steps.{IsInspection, WritesInspected}
-use Rattle.osb_top.specs.declared.answers.Unbuilt.{Unbuilt}
-use Rattle.osb_top.specs.declared.answers.Unbuilt.TheVariants.{Absent, ReadFault, Refused, NoSuchExport, Source, Failed, NoMemory}
-use Rattle.osb_top.proofs.Builds.{manifest_of-cut}
+use Rattle.osb_top.specs.Inspecting.{MayBeUnbuilt, IsInspection, WritesInspected}
+use Rattle.osb_ready.specs.declared.unbuilt.Unbuilt.{Unbuilt}
+use Rattle.osb_ready.specs.declared.unbuilt.Unbuilt.TheVariants.{Absent, ReadFault, Refused, NoSuchExport, Source, Failed, NoMemory}
+use Rattle.osb_ready.proofs.Cuts.{manifest_of-cut}
 use Rattle.osb_top.proofs.Givens.{NoFault, given_read}
 
 inspect_due-cut : (found : Option (List ℕ)) → inspect_due (option_map cut found) ≡ inspect_due found
@@ -50,8 +51,3 @@ inspection_written shelf sink name result status inspection written = record {
   read = inspection.read;
   output = by_result shelf sink (inspect_due inspection.found) result status inspection.given written;
 }
-
--- why there is no text, other than want of memory
-pub unbuilt_written : (sink : SinkSeen) (unbuilt : Unbuilt) (status : ℕ) → unbuilt ≢ NoMemory → Ends sink (inspect_out (Err unbuilt)) (inspect_status (Err unbuilt)) status → WritesInspected sink (Err unbuilt) status
-unbuilt_written sink unbuilt status other (inl written) = inl ((λ e. other (cc)), written)
-unbuilt_written sink unbuilt status other (inr unchanged) = inr unchanged

@@ -1,10 +1,13 @@
-pub mod Builds
-pub mod Due
-pub mod ManyExports
-pub mod Pairing
-pub mod ReadyBuilds
-pub mod Trees
-pub mod ExportNames
-pub mod Writing
-pub mod Givens
-pub mod Inspecting
+mod Writing
+mod Givens
+mod Inspecting
+mod Preparing
+mod Reading
+mod Answering
+mod Coming
+mod Uncut
+mod Running
+mod Limits
+mod Rising
+mod Completing
+mod CompleteRuns

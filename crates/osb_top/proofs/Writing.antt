@@ -2,8 +2,9 @@
 use Rattle.std.proofs.Common.{◌≡◌, ℕ, ◌+◌, ◌-◌, ◌≤◌, List, ◌++◌, length, take, drop, Option, Some, None, option_map, sym, refl, ap, ◌∙◌, inr, append_assoc, take-append-drop, length-drop, arith}
 use Rattle.std.proofs.lemmas.List.{take_all}
 use Rattle.std.proofs.Math.Seq.{take-add}
-use Rattle.osb_top.specs.Exports.{HasRisen}
-use Rattle.osb_top.specs.Runs.{SinkSeen, Writes, IsWritten}
+use Rattle.osb_answers.specs.Exports.{HasRisen}
+use Rattle.osb_top.specs.Seen.{SinkSeen}
+use Rattle.osb_top.specs.Writing.{Writes, IsWritten}
 
 -- the rest of a text, as a range of it
 pub rest_of : (text : List ℕ) (count : ℕ) → take (length text - count) (drop count text) ≡ drop count text

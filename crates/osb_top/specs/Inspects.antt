@@ -7,11 +7,12 @@ use Rattle.osb_manifest.specs.declared.manifests.Manifest.{Manifest}
 use Rattle.osb_manifest.specs.declared.manifests.Refusal.{Refusal}
 use Rattle.osb_ident.specs.Idents.{manifest_ids}
 use Rattle.osb_ident.specs.Marks.{inspect_text}
-use Rattle.osb_top.specs.Exports.{HasRisen}
-use Rattle.osb_top.specs.Lines.{line_of, unbuilt_words}
-use Rattle.osb_top.specs.Runs.{ShelfSeen, SinkSeen, IsWritten, Ends}
-use Rattle.osb_top.specs.declared.answers.Unbuilt.{Unbuilt}
-use Rattle.osb_top.specs.declared.answers.Unbuilt.TheVariants.{Absent, ReadFault, Refused}
+use Rattle.osb_answers.specs.Exports.{HasRisen}
+use Rattle.osb_answers.specs.Lines.{line_of, unbuilt_words}
+use Rattle.osb_top.specs.Seen.{ShelfSeen, SinkSeen}
+use Rattle.osb_top.specs.Writing.{IsWritten, Ends}
+use Rattle.osb_ready.specs.declared.unbuilt.Unbuilt.{Unbuilt}
+use Rattle.osb_ready.specs.declared.unbuilt.Unbuilt.TheVariants.{Absent, ReadFault, Refused}
 
 -- two words, of which the first is `inspect`: the second is a manifest's name
 abbrev pub inspected : List (List ℕ) → Option (List ℕ)

@@ -1,7 +1,11 @@
-pub mod Exports
-pub mod Answers
-pub mod Lines
+pub mod Seen
+pub mod Writing
+pub mod Stops
+pub mod Builds
 pub mod Runs
-pub mod Inspects
 pub mod Steps
-pub mod Pairing
+pub mod Readings
+pub mod Wholes
+pub mod Complete
+pub mod Inspects
+pub mod Inspecting

@@ -1,159 +1,109 @@
--- What a whole run does, as it is seen from outside.
-use Rattle.std.specs.Prelude.{◌≡◌, ◌==◌, Bool, true, false, ℕ, ◌⊎◌, List, [], ◌∷◌, ◌++◌, codes, Option, Some, None, option_map, IfSome, Result, Ok, Err, if◌then◌else◌}
-use Rattle.std.specs.List.{list_all, slice_split}
-use Rattle.osb_base.specs.Shelves.{Files, file_of}
-use Rattle.osb_shape.specs.Forms.{is_pipeline_name}
-use Rattle.osb_manifest.specs.Needed.{is_among}
-use Rattle.osb_top.specs.Exports.{ExporterSeen, Count, HasRisen, AreExported}
-use Rattle.osb_top.specs.Answers.{asked, exports_due}
-use Rattle.osb_base.specs.Fetchers.{FetcherState}
-use Rattle.osb_sources.specs.Rounds.{Gathers, SomeRose}
-use Rattle.osb_sources.specs.declared.answers.SourceAnswer.{SourceAnswer}
-use Rattle.osb_sources.specs.declared.answers.SourceAnswer.TheVariants.{Fault as SourceFault}
-use Rattle.osb_top.specs.Lines.{answer_lines}
-use Rattle.osb_top.specs.declared.words.Request.{Request}
-use Rattle.osb_top.specs.declared.answers.Export.{Export}
-use Rattle.osb_top.specs.declared.answers.ExportAnswer.{ExportAnswer}
-use Rattle.osb_top.specs.declared.answers.ExportAnswer.TheVariants.{Exported, Fault, NoMemory as NoMemoryLeft}
-use Rattle.osb_top.specs.declared.answers.Unbuilt.{Unbuilt}
-use Rattle.osb_top.specs.declared.answers.Unbuilt.TheVariants.{Absent, ReadFault, Refused, NoSuchExport, Source, Failed, NoMemory}
-use Rattle.osb_top.specs.declared.answers.Answer.{Answer}
-use Rattle.osb_top.specs.declared.answers.Answer.TheVariants as builds
-
--- ---- what is asked for
-
--- a name, added where it isn't among some yet
-abbrev pub one_new : List (List ℕ) → List ℕ → List (List ℕ)
-one_new names name = if is_among names name then names else names ++ name ∷ []
-
--- names, with some more that are not among them yet
-abbrev pub with_new : List (List ℕ) → List (List ℕ) → List (List ℕ)
-with_new names [] = names
-with_new names (more ∷ others) = with_new (one_new names more) others
-
--- where all parts are names: of equal ones the first stands
-abbrev pub names_among : List (List ℕ) → Option (List (List ℕ))
-names_among parts = if list_all is_pipeline_name parts then Some (with_new [] parts) else None
-
--- the pipeline names of a list divided by `,`
-abbrev pub exports_named : List ℕ → Option (List (List ℕ))
-exports_named text = names_among (slice_split (λ b. b == 44) text)
-
--- two words are a request: a manifest's name, and the names of pipelines to export
-abbrev pub request_of : List (List ℕ) → Option Request
-request_of [] = None
-request_of (manifest ∷ []) = None
-request_of (manifest ∷ exports ∷ []) = option_map (λ names. record { manifest = manifest; exports = names }) (exports_named exports)
-request_of (manifest ∷ exports ∷ word ∷ words) = None
-
--- ---- what a run is seen by
-
--- what the shelf holds, where it tells
-pub record ShelfSeen : Type 0 where
-  pub files : Option Files
-  pub faults : Count
-
--- the bytes of the sink, where it tells
-pub record SinkSeen : Type 0 where
-  pub before : Option (List ℕ)
-  pub now : Option (List ℕ)
-  pub faults : Count
-
--- the fetchers in the list
-pub record FetchersSeen : Type 0 where
-  pub before : List FetcherState
-  pub now : List FetcherState
+-- What a run does over its settings, a store, and what the shelf gave: its answers, its trees, its log, the store that it
+-- leaves, its output and its status.
+use Rattle.std.specs.Prelude.{◌≡◌, ℕ, ◌⊎◌, Bool, false, List, [], ◌++◌, map, Option, Some, None, IfSome, Result, Ok, Err, if◌then◌else◌}
+use Rattle.std.specs.List.{AllZip, filter_map, list_all}
+use Rattle.std.specs.Result.{result_ok}
+use Rattle.osb_base.specs.declared.faults.WriteStop.{WriteStop}
+use Rattle.osb_base.specs.declared.faults.WriteStop.TheVariants as write_stops
+use Rattle.osb_recipe.specs.declared.plans.Plan.{Plan}
+use Rattle.osb_plan.specs.Planning.{planned}
+use Rattle.osb_plan.specs.declared.builds.Build.{Build}
+use Rattle.osb_machine.specs.declared.shares.Finished.{Finished}
+use Rattle.osb_store.specs.Texts.{store_text}
+use Rattle.osb_store.specs.declared.stores.Store.{Store}
+use Rattle.osb_log.specs.Texts.{log_text}
+use Rattle.osb_words.specs.declared.requests.Settings.{Settings}
+use Rattle.osb_ready.specs.Readying.{Reply}
+use Rattle.osb_ready.specs.Trees.{IsOfBuild, exports_due}
+use Rattle.osb_ready.specs.declared.exports.Export.{Export}
+use Rattle.osb_ready.specs.declared.unbuilt.Unbuilt.{Unbuilt as WhyUnbuilt}
+use Rattle.osb_ready.specs.declared.unbuilt.Unbuilt.TheVariants as whys
+use Rattle.osb_builder.specs.Stores.{IsTrueStore, store_after}
+use Rattle.osb_builder.specs.Building.{IsMachineRun}
+use Rattle.osb_answers.specs.Exports.{HasRisen, AreExported, all_placed, is_exported}
+use Rattle.osb_answers.specs.Lines.{answers_text}
+use Rattle.osb_answers.specs.declared.answers.Answer.{Answer}
+use Rattle.osb_answers.specs.declared.answers.Answer.TheVariants.{Unbuilt, Exports}
+use Rattle.osb_top.specs.Seen.{KeeperSeen, Seen}
+use Rattle.osb_top.specs.Writing.{Ends}
+use Rattle.osb_top.specs.Stops.{Stops, no_memory}
+use Rattle.osb_top.specs.Builds.{ArePrepared}
 
 -- ---- answers
 
--- why there may be nothing: as is due, or by a fault of the shelf, or for want of memory
-abbrev pub MayBeUnbuilt : {A : Type 0} → ShelfSeen → Result A Unbuilt → Unbuilt → Type 0
-MayBeUnbuilt shelf due Absent = due ≡ Err Absent
-MayBeUnbuilt shelf due (Refused refusal) = due ≡ Err (Refused refusal)
-MayBeUnbuilt shelf due (NoSuchExport name) = due ≡ Err (NoSuchExport name)
-MayBeUnbuilt shelf due (Source answer) = due ≡ Err (Source answer)
-MayBeUnbuilt shelf due (Failed pipeline stage fault) = due ≡ Err (Failed pipeline stage fault)
-MayBeUnbuilt shelf due ReadFault = HasRisen shelf.faults
-MayBeUnbuilt shelf due NoMemory = Unit {0}
+-- the answer is the one that is due; want of memory may stand in its place
+abbrev pub MayAnswer : Result (List Export) WhyUnbuilt → Answer → Type 0
+MayAnswer due (Unbuilt whys.NoMemory) = Unit {0}
+MayAnswer due (Unbuilt why) = due ≡ Err why
+MayAnswer due (Exports list) = due ≡ Ok (map (λ exported. exported.export) list)
 
--- the answer: the exports that are due, or why there are none
-abbrev pub MayAnswer : ShelfSeen → Result (List Export) Unbuilt → Answer → Type 0
-MayAnswer shelf due (builds.Unbuilt unbuilt) = MayBeUnbuilt shelf due unbuilt
-MayAnswer shelf due (builds.Exports exports answers) = due ≡ Ok exports
+-- what a build that is planned can be answered, whatever the store
+abbrev pub IsOfPlan : Answer → Type 0
+IsOfPlan (Exports list) = Unit {0}
+IsOfPlan (Unbuilt why) = IsOfBuild (Err why)
 
--- a source fault comes only where the count of a fetcher that is not gone rose
-abbrev pub HasSourceCause : FetchersSeen → Answer → Type 0
-HasSourceCause fetchers answer = (digest : List ℕ) → answer ≡ builds.Unbuilt (Source (SourceFault digest)) → SomeRose fetchers.before fetchers.now
+-- a build that is not planned has its answer; one that is planned is answered what is due of it, if the store is true
+abbrev pub IsAnswered : List (List ℕ) → Type 0 → Result Build WhyUnbuilt → Answer → Type 0
+IsAnswered names truth (Ok build) answer = IsOfPlan answer × (truth → MayAnswer (exports_due names build) answer)
+IsAnswered names truth (Err why) answer = answer ≡ Unbuilt why
 
--- ---- trees
+-- ---- the log
 
--- the operations that an answer comes with: those of its exports, or none
-abbrev pub HasExports : ExporterSeen → Answer → Type 0
-HasExports exporter (builds.Unbuilt unbuilt) = exporter.now ≡ exporter.before
-HasExports exporter (builds.Exports exports answers) = AreExported exporter exports answers
+-- the plan of the builds that have no answer yet, over the loaded store
+abbrev pub plan_of : Store → List (Result Build WhyUnbuilt) → Plan
+plan_of store builds = planned store.table (filter_map result_ok builds)
+
+-- ---- the store
+
+-- a keeper that told holds the text once it is saved; where it is not, the keeper holds what it held, or tells nothing
+abbrev pub HasKept : KeeperSeen → List ℕ → Result (Unit {0}) WriteStop → Type 0
+HasKept keeper text (Ok done) = IfSome keeper.before (λ held. keeper.now ≡ Some (Some text))
+HasKept keeper text (Err write_stops.Failed) = ((keeper.now ≡ keeper.before) ⊎ (keeper.now ≡ None)) × HasRisen keeper.faults
+HasKept keeper text (Err write_stops.NoMemory) = (keeper.now ≡ keeper.before) ⊎ (keeper.now ≡ None)
+
+-- without a store it is not called
+abbrev pub IsKept : Option (List ℕ) → KeeperSeen → List ℕ → Result (Unit {0}) WriteStop → Type 0
+IsKept None keeper text saved = (keeper.now ≡ keeper.before) × (keeper.faults.now ≡ keeper.faults.before) × (saved ≡ Ok tt)
+IsKept (Some name) keeper text saved = HasKept keeper text saved
 
 -- ---- output and status
 
--- where the sink tells, it took this text, and nothing else
-abbrev pub Writes : SinkSeen → List ℕ → Type 0
-Writes sink text = sink.now ≡ option_map (λ old. old ++ text) sink.before
+abbrev pub out_text : Settings → List Answer → Finished → List ℕ
+out_text settings answers finished = answers_text 1 answers ++ (if settings.log then log_text finished.opened finished.log else [])
 
--- it took a front of the text
-pub record WritesFront (sink : SinkSeen) (text : List ℕ) : Type 0 where
-  pub front : List ℕ
-  pub rest : List ℕ
-  pub together : front ++ rest ≡ text
-  pub taken : Writes sink front
+-- each of its exports is exported
+abbrev pub is_done : Answer → Bool
+is_done (Unbuilt why) = false
+is_done (Exports list) = list_all (λ exported. is_exported exported.answer) list
 
--- a fault of the sink ended the writing
-abbrev pub IsSinkFault : SinkSeen → List ℕ → ℕ → Type 0
-IsSinkFault sink text status = WritesFront sink text × (status ≡ 6) × HasRisen sink.faults
+-- where the sink takes all and memory suffices
+abbrev pub status_of : Result (Unit {0}) WriteStop → List Answer → ℕ
+status_of (Err write_stops.NoMemory) answers = 7
+status_of (Err write_stops.Failed) answers = 5
+status_of (Ok done) answers = if list_all is_done answers then 0 else 1
 
--- the text is written, with the usual status; or the sink failed
-abbrev pub IsWritten : SinkSeen → List ℕ → ℕ → ℕ → Type 0
-IsWritten sink text usual status = (Writes sink text × (status ≡ usual)) ⊎ IsSinkFault sink text status
+-- ---- runs over what was read
 
--- the same; or there was want of memory before anything was written
-abbrev pub Ends : SinkSeen → List ℕ → ℕ → ℕ → Type 0
-Ends sink text usual status = IsWritten sink text usual status ⊎ ((sink.now ≡ sink.before) × (status ≡ 7))
+-- the run comes to its exports
+pub record Comes (settings : Settings) (workers : ℕ) (store : Store) (reads : List Reply) (seen : Seen) (status : ℕ) : Type 0 where
+  -- what its steps gave
+  pub builds : List (Result Build WhyUnbuilt)
+  pub finished : Finished
+  pub answers : List Answer
+  pub saved : Result (Unit {0}) WriteStop
+  -- answers: each build is prepared from what was given of it, and is answered what is due
+  pub prepared : ArePrepared settings seen.fetchers.before reads builds seen.fetchers.now
+  pub answered : AllZip (IsAnswered settings.exports (IsTrueStore store)) builds answers
+  -- trees
+  pub trees : AreExported seen.exporter (all_placed 1 answers)
+  -- log
+  pub log : IsTrueStore store → IsMachineRun (plan_of store builds) store settings.limit workers seen.stages.before seen.stages.now finished
+  -- store
+  pub kept : IsKept settings.store seen.keeper (store_text (store_after (plan_of store builds) finished)) saved
+  -- output and status
+  pub output : Ends seen.sink (out_text settings answers finished) (status_of saved answers) status
 
--- the status of an answer: 0 where every export is done, and else 1
-abbrev pub is_exported : ExportAnswer → Bool
-is_exported (Exported size) = true
-is_exported Fault = false
-is_exported NoMemoryLeft = false
-
-abbrev pub answer_status : Answer → ℕ
-answer_status (builds.Unbuilt unbuilt) = 1
-answer_status (builds.Exports exports answers) = if list_all is_exported answers then 0 else 1
-
--- ---- runs
-
--- a build: its answer by what was found under the manifest's name and what was gathered, and its operations
-pub record Answers (shelf : ShelfSeen) (fetchers : FetchersSeen) (exporter : ExporterSeen) (request : Request) (answer : Answer) : Type 0 where
-  pub found : Option (List ℕ)
-  -- where the shelf tells, it was what the shelf holds there
-  pub read : IfSome shelf.files (λ files. found ≡ file_of files request.manifest)
-  pub gathered : Result (List (List ℕ)) SourceAnswer
-  pub gathers : Gathers (asked found request.exports).items (asked found request.exports).digests fetchers.before fetchers.now gathered
-  pub answers : MayAnswer shelf (exports_due found request.exports gathered) answer
-  pub cause : HasSourceCause fetchers answer
-  pub trees : HasExports exporter answer
-
--- the run of a request: a build, its lines, and its status
-pub record Builds (shelf : ShelfSeen) (fetchers : FetchersSeen) (exporter : ExporterSeen) (sink : SinkSeen) (request : Request) (status : ℕ) : Type 0 where
-  pub answer : Answer
-  pub answered : Answers shelf fetchers exporter request answer
-  pub output : Ends sink (answer_lines 1 answer) (answer_status answer) status
-
--- a run that ends with one line: nothing is gathered or exported
-pub record EndsEarly (fetchers : FetchersSeen) (exporter : ExporterSeen) (sink : SinkSeen) (line : List ℕ) (usual status : ℕ) : Type 0 where
-  pub untouched : fetchers.now ≡ fetchers.before
-  pub trees : exporter.now ≡ exporter.before
-  pub output : IsWritten sink line usual status
-
--- words that are no request are refused, and others are built; for want of memory, before anything is built, neither may
--- be known
-abbrev pub IsRun : Option Request → ShelfSeen → FetchersSeen → ExporterSeen → SinkSeen → ℕ → Type 0
-IsRun None shelf fetchers exporter sink status = EndsEarly fetchers exporter sink (codes "words refused\n") 2 status ⊎ EndsEarly fetchers exporter sink (codes "want of memory\n") 7 status
-IsRun (Some request) shelf fetchers exporter sink status = Builds shelf fetchers exporter sink request status ⊎ EndsEarly fetchers exporter sink (codes "want of memory\n") 7 status
+-- a run over settings, a store, and what the shelf gave for each manifest: it comes to its exports, or there was no memory
+-- before them
+abbrev pub IsRunOver : Settings → ℕ → Store → List Reply → Seen → ℕ → Type 0
+IsRunOver settings workers store reads seen status = Comes settings workers store reads seen status ⊎ Stops seen no_memory status

@@ -1,13 +1,16 @@
 ghost use Rattle.std.specs.Prelude.{◌≡◌, ◌≢◌, false, Ok, Err, None, map, option_map, string_bytes};
 ghost use Rattle.osb_base.specs.Faults.{Rose};
 ghost use Rattle.osb_top.specs.Inspects.{inspected, read_due, inspect_due, IsInspect};
-ghost use Rattle.osb_top.specs.Steps.{IsInspection, WritesInspected};
+ghost use Rattle.osb_top.specs.Inspecting.{IsInspection, WritesInspected};
 
-use crate::answers::{Answer, Unbuilt};
-use crate::runs::{Status, write_answer, write_bytes, write_text};
+use crate::Status;
+use crate::stops::refuse_words;
+use crate::writes::{write_bytes, write_text};
+use osb_answers::unbuilt_line;
 use osb_base::{Bytes, ReadStop, Shelf, Sink};
 use osb_ident::{inspect_text, stage_ids};
 use osb_manifest::{Manifest, Refusal, read_manifest};
+use osb_ready::Unbuilt;
 use std::alloc::Global;
 
 /// Writes the identifiers of a manifest's stages, as two words ask: `inspect`, and the manifest's name.
@@ -31,7 +34,7 @@ pub fn inspect<H: Shelf, O: Sink>(
             let text = inspect_named(alloc, name, shelf);
             write_inspected(alloc, text, out)
         }
-        None => write_text("words refused\n", 2, out),
+        None => refuse_words(out),
     }
 }
 
@@ -98,7 +101,10 @@ fn write_unbuilt<O: Sink>(alloc: Global, unbuilt: Unbuilt, out: &mut O) -> Statu
     if is_no_memory(&unbuilt) {
         return Status(7);
     }
-    write_answer(alloc, &Answer::Unbuilt(unbuilt), out)
+    match unbuilt_line(alloc, 1, &unbuilt) {
+        Ok(line) => write_text(line.as_str(), 1, out),
+        Err(_) => Status(7),
+    }
 }
 
 fn is_no_memory(unbuilt: &Unbuilt) -> bool

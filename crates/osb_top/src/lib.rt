@@ -1,17 +1,17 @@
-//! The builder: manifests in, trees and answer lines out.
+//! The whole runs: manifests built over a store and exported, and a look at a manifest's identifiers.
 #![tactic(auto)]
 
-mod alone;
-mod answers;
-mod exports;
+mod builds;
 mod inspects;
-mod lines;
-mod own;
+mod over;
+mod prepares;
 mod runs;
-mod words;
+mod starts;
+mod stops;
+mod stores;
 mod writes;
 
-pub use answers::{Answer, Export, ExportAnswer, Unbuilt, exports_due, exports_of_build};
-pub use inspects::{inspect, inspect_due};
-pub use own::own_build;
+pub use inspects::inspect;
+pub use over::run_serial_over;
 pub use runs::{Status, run_serial};
+pub use starts::{LoadedStore, RunSettings};

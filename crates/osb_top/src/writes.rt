@@ -1,6 +1,8 @@
 ghost use Rattle.std.specs.Prelude.{◌≡◌, ◌++◌, ◌<◌, ◌≤◌, length, take, option_map};
 ghost use Rattle.osb_base.specs.Faults.{Rose};
+ghost use Rattle.osb_top.specs.Writing.{IsWritten};
 
+use crate::Status;
 use osb_base::Sink;
 
 /// Writes a text to its end, or until the sink fails, and says how many of its bytes were taken.
@@ -18,4 +20,22 @@ pub fn write_all<O: Sink>(text: &[u8], out: &mut O) -> usize
         }
     }
     count
+}
+
+/// Writes a text. The status is the usual one, unless the sink fails.
+pub(crate) fn write_text<O: Sink>(text: &str, usual: u8, out: &mut O) -> Status
+    ensures { IsWritten (record { before = O.taken out.old; now = O.taken out.new; faults = record { before = O.sink_faults out.old; now = O.sink_faults out.new } }) text.now usual result.0 }
+{
+    write_bytes(text.as_bytes(), usual, out)
+}
+
+/// The same for a text that is given as its bytes.
+pub(crate) fn write_bytes<O: Sink>(text: &[u8], usual: u8, out: &mut O) -> Status
+    ensures { IsWritten (record { before = O.taken out.old; now = O.taken out.new; faults = record { before = O.sink_faults out.old; now = O.sink_faults out.new } }) text.now usual result.0 }
+{
+    if write_all(text, out) == text.len() {
+        Status(usual)
+    } else {
+        Status(6)
+    }
 }

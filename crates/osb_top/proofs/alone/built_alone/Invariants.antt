@@ -1,4 +1,0 @@
-use Rattle.osb_top.proofs.alone.built_alone.Given as goal
-
-abbrev pub ghosts-outcomes_of : goal.ghosts-outcomes_of
-ghosts-outcomes_of a = record { name = a.blank.name; parts = a.blank.parts }

@@ -1,6 +1,0 @@
-use Rattle.std.proofs.Common.{◌≡◌, ◌++◌, drop}
-use Rattle.osb_top.specs.Pairing.{built_from}
-use Rattle.osb_top.proofs.alone.by_places.Given as goal
-
-abbrev pub invariant-loop-first : goal.invariant-loop-first
-invariant-loop-first l = l.built.items ++ built_from l.outcomes l.build.needed l.first (drop l.first l.numbers) ≡ built_from l.outcomes l.build.needed 0 l.numbers

@@ -1,6 +1,0 @@
-use Rattle.std.proofs.Common.{◌≡◌, ◌++◌}
-use Rattle.std.specs.List.{zip}
-use Rattle.osb_top.proofs.alone.items_by_digest.Given as goal
-
-abbrev pub invariant-loop-bytes : goal.invariant-loop-bytes
-invariant-loop-bytes l = l.pairs.items ++ zip l.digests.rest.items l.bytes-iterator.rest.items ≡ zip l.fn.digests.items l.fn.items.items
