@@ -1,0 +1,4 @@
+pub mod Places
+pub mod Turning
+pub mod Interleaving
+pub mod Endings

@@ -1,0 +1,4 @@
+use Rattle.osb_work.proofs.workers.work.Given as goal
+
+abbrev pub ghosts-work_by : goal.ghosts-work_by
+ghosts-work_by g a = record { name = a.blank.name; parts = a.blank.parts }
